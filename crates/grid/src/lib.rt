@@ -1,0 +1,13 @@
+//! Grids of cells on three axes: sizes, places and cell numbers, the record that is kept of a cell,
+//! and the refusals that every call of the library answers with.
+mod cell;
+mod refusal;
+mod sizes;
+mod theorems;
+
+pub use cell::Cell;
+pub use refusal::Refusal;
+pub use sizes::MAX_CELLS;
+pub use sizes::MAX_SIZE;
+pub use sizes::Sizes;
+pub use theorems::places_invert;
