@@ -56,7 +56,6 @@ pub impl Rule for Block as BlockRule {
 
     fn ceiling(&self, axis: u8) -> Option<u64> {
         match axis {
-            0 => Some(0),
             1 => Some(self.widest(1)),
             2 => Some(self.widest(1) + self.widest(2)),
             3 => Some(self.widest(1) + self.widest(2) + self.widest(3)),

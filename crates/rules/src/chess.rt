@@ -52,7 +52,6 @@ pub impl Rule for Chess as ChessRule {
 
     fn ceiling(&self, axis: u8) -> Option<u64> {
         match axis {
-            0 => Some(0),
             1 => Some(self.widest(1)),
             2 => Some(self.widest(1).max(self.widest(2))),
             3 => Some(self.widest(1).max(self.widest(2)).max(self.widest(3))),

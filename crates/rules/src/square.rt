@@ -55,7 +55,6 @@ pub impl Rule for Square as SquareRule {
 
     fn ceiling(&self, axis: u8) -> Option<u64> {
         match axis {
-            0 => Some(0),
             1 => Some(self.widest_squared(1)),
             2 => Some(self.widest_squared(1) + self.widest_squared(2)),
             3 => Some(self.widest_squared(1) + self.widest_squared(2) + self.widest_squared(3)),
