@@ -19,7 +19,7 @@ pub fn search_field<R: Rule, P: Picture>(
     picture: &P,
     cells: &mut [Cell],
 ) -> Result<(), Refusal>
-    ensures { λ r. ⌜ Searched r (cost (now (rule .entry))) (extent (now (picture .entry))) (marks-by-number (extent (now (picture .entry))) (marks (now (picture .entry)))) (now (cells .entry)) (now (cells .exit)) ⌝ }
+    ensures { λ r. ⌜ Searched r (near (now (rule .entry))) (extent (now (picture .entry))) (marks-by-number (extent (now (picture .entry))) (marks (now (picture .entry)))) (now (cells .entry)) (now (cells .exit)) ⌝ }
 {
     let sizes = picture.sizes();
     let count = sizes.nx * sizes.ny * sizes.nz;
@@ -36,7 +36,7 @@ pub fn search_field<R: Rule, P: Picture>(
 fn finished_cell<R: Rule, P: Picture>(rule: &R, picture: &P, sizes: Sizes, at: u32) -> Cell
     requires grid { ⌜ IsGrid sizes ⌝ }
     requires cell { ⌜ at < cell-count sizes ⌝ }
-    ensures { λ r. ⌜ FinishedCell (cost (now (rule .entry))) sizes (marks-by-number sizes (marks (now (picture .entry)))) at r ⌝ }
+    ensures { λ r. ⌜ FinishedCell (near (now (rule .entry))) sizes (marks-by-number sizes (marks (now (picture .entry)))) at r ⌝ }
 {
     let (point, value) = match nearest_in(rule, picture, sizes, at) {
         Some((from, value)) => (Some(from), value),

@@ -12,7 +12,7 @@ use rules::Rule;
 fn distance_in<R: Rule>(rule: &R, sizes: Sizes, at: u32, from: u32) -> u64
     requires grid { ⌜ IsGrid sizes ⌝ }
     requires cells { ⌜ (at < cell-count sizes) × (from < cell-count sizes) ⌝ }
-    ensures { λ r. ⌜ r ≡ distance (cost (now (rule .entry))) sizes 3 at from ⌝ }
+    ensures { λ r. ⌜ r ≡ distance (near (now (rule .entry))) sizes 3 at from ⌝ }
 {
     let (x, y, z) = sizes.place_in(at);
     let (i, j, k) = sizes.place_in(from);
@@ -30,7 +30,7 @@ pub fn nearest_in<R: Rule, P: Picture>(
 ) -> Option<(u32, u64)>
     requires grid { ⌜ IsGrid sizes ⌝ }
     requires cell { ⌜ at < cell-count sizes ⌝ }
-    ensures { λ r. ⌜ NearestBelow (cost (now (rule .entry))) sizes (marks-by-number sizes (marks (now (picture .entry)))) at (cell-count sizes) r ⌝ }
+    ensures { λ r. ⌜ NearestBelow (near (now (rule .entry))) sizes (marks-by-number sizes (marks (now (picture .entry)))) at (cell-count sizes) r ⌝ }
 {
     let mut best = None;
     for from in 0..sizes.nx * sizes.ny * sizes.nz {

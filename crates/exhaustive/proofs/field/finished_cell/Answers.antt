@@ -11,7 +11,7 @@ use mathlib.Core.Path.{refl}
 
 pub returns : need.returns
 returns g c =
-    let near = g .R·Rule .cost (c .args .rule .now) in
+    let near = g .R·Rule .near (c .args .rule .now) in
     let s = c .args .sizes in
     let marks = marks-by-number s (g .P·Picture .marks (c .args .picture .now)) in
     let Right : Option ℕ × ℕ → Type 0 = λ a. Answers near s marks 3 (c .args .at) (a .0) (a .1) in

@@ -10,7 +10,7 @@ use Rattle.exhaustive.proofs.nearest.nearest_in.Needs.{then-marked, else-marke
 
 pub loop-from-again : need.loop-from-again
 loop-from-again g c =
-    let near = g .R·Rule .cost (c .args .rule .now) in
+    let near = g .R·Rule .near (c .args .rule .now) in
     let s = c .args .sizes in
     let marks = marks-by-number s (g .P·Picture .marks (c .args .picture .now)) in
     let here = ap (g .P·Picture .marks (c .args .picture .now)) (sym (c .place-in .ensures)) in
@@ -23,7 +23,7 @@ loop-from-again g c =
 
 pub returns : need.returns
 returns g c =
-    let near = g .R·Rule .cost (c .args .rule .now) in
+    let near = g .R·Rule .near (c .args .rule .now) in
     let s = c .args .sizes in
     let marks = marks-by-number s (g .P·Picture .marks (c .args .picture .now)) in
     let all : c .loop-from .from ≡ cell-count s = omega (arith, c .loop-from-test .left, c .loop-from .kept .from-end) in
