@@ -27,9 +27,9 @@ pub carried-to-3 : (ceil : ℕ → ℕ) (cost : Near) → Bounded ceil cost → 
     → (u v : ℕ) → u ≡ cost 1 (q .0) (p .0) 0 → v ≡ cost 2 (q .1) (p .1) u → Seen ceil 3 (q .2) v (p .2)
 carried-to-3 ceil cost bounded ceilings p q pr qr u v eu ev =
     let one : cost 1 (q .0) (p .0) 0 ≤ ceil 1 =
-        bounded 1 (q .0) (p .0) 0 record { point = record { axis-low = omega arith; axis-high = omega arith; place = qr .x; carried = omega arith }; asked-at = pr .x } in
+    bounded 1 (q .0) (p .0) 0 record { point = record { axis-low = omega arith; axis-high = omega arith; place = qr .x; carried = omega arith }; asked-at = pr .x } in
     let first : u ≤ ceil 1 = omega arith in
     let two : cost 2 (q .1) (p .1) u ≤ ceil 2 =
-        bounded 2 (q .1) (p .1) u record { point = record { axis-low = omega arith; axis-high = omega arith; place = qr .y; carried = first }; asked-at = pr .y } in
+    bounded 2 (q .1) (p .1) u record { point = record { axis-low = omega arith; axis-high = omega arith; place = qr .y; carried = first }; asked-at = pr .y } in
     let second : v ≤ ceil 2 = omega arith in
     record { point = record { axis-low = omega arith; axis-high = omega arith; place = qr .z; carried = second }; asked-at = pr .z }

@@ -21,9 +21,9 @@ module _ (near : Near) (s : Sizes) (marks : Marks) (k : ℕ) where
   -- a cell that is not marked changes nothing
   pub past-unmarked : (n : ℕ) (best : Option (ℕ × ℕ)) → NearestBelow near s marks k n best → marks n ≡ false → NearestBelow near s marks k (n + 1) best
   past-unmarked n None so-far un = λ q h m. elim (ℕ-discrete q n) [
-      | yes e ↦ (let z : true ≡ false = sym m ∙ ap marks e ∙ un in let y : _≡_ {A = ℕ} 0 1 = cc in omega arith)
-      | no ne ↦ so-far q (omega arith) m
-    ]
+    | yes e ↦ (let z : true ≡ false = sym m ∙ ap marks e ∙ un in let y : _≡_ {A = ℕ} 0 1 = cc in omega arith)
+    | no ne ↦ so-far q (omega arith) m
+  ]
   past-unmarked n (Some b) so-far un =
       record {
         below = omega (arith, so-far .below);

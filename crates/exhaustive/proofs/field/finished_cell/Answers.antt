@@ -16,10 +16,10 @@ returns g c =
     let marks = marks-by-number s (g .P·Picture .marks (c .args .picture .now)) in
     let Right : Option ℕ × ℕ → Type 0 = λ a. Answers near s marks 3 (c .args .at) (a .0) (a .1) in
     let right : Right (c .match-nearest-in .point) =
-        elim (c .match-nearest-in .came) [
-          | in-Some w ↦ subst Right (sym (w .point-is)) (answers-some near s marks (c .args .at) (w .in-Some .from, w .in-Some .value) (w .in-Some .ensures tt))
-          | in-None w ↦ subst Right (sym (w .point-is)) (answers-none near s marks (c .args .at) (w .in-None .ensures tt))
-        ] in
+    elim (c .match-nearest-in .came) [
+      | in-Some w ↦ subst Right (sym (w .point-is)) (answers-some near s marks (c .args .at) (w .in-Some .from, w .in-Some .value) (w .in-Some .ensures tt))
+      | in-None w ↦ subst Right (sym (w .point-is)) (answers-none near s marks (c .args .at) (w .in-None .ensures tt))
+    ] in
     record {
       holds = record {
         mark = c .marked .ensures ∙ ap (g .P·Picture .marks (c .args .picture .now)) (c .place-in .ensures);

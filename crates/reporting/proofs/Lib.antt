@@ -1,0 +1,3 @@
+mod Words
+mod NameLines
+mod ValueLines
