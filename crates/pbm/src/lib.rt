@@ -1,0 +1,9 @@
+//! Stacks of raw bit images (PBM), one image a layer, read as a picture.
+mod faults;
+mod images;
+mod stack;
+
+pub use faults::Cause;
+pub use faults::StackFault;
+pub use stack::Stack;
+pub use stack::StackPicture;
