@@ -5,5 +5,7 @@ mod stack;
 
 pub use faults::Cause;
 pub use faults::StackFault;
+pub use faults::StackFaultDebug;
+pub use faults::StackFaultPartialEq;
 pub use stack::Stack;
 pub use stack::StackPicture;

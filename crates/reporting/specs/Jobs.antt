@@ -5,18 +5,13 @@ use mathlib.Core.List.{List, [], _∷_, _++_, map}
 use Prim.Native.Nat.{ℕ, _≤_}
 use lib.Chars.{codes}
 use Rattle.numerals.specs.Numerals.{numeral}
+use Rattle.reporting.specs.Lines.{line-of}
 use Rattle.reporting.specs.declared.columns.Column.{Column}
 use Rattle.reporting.specs.declared.columns.Column.the-variants.{Rule, Sx, Sy, Sz}
 use Rattle.reporting.specs.declared.columns.Order.{Order}
 use Rattle.reporting.specs.declared.settings.RuleName.{RuleName}
 use Rattle.reporting.specs.declared.settings.RuleName.the-variants.{Square, Block, Chess}
 use Rattle.reporting.specs.declared.settings.Settings.{Settings}
-
--- words one space apart, and a line feed after the last
-abbrev pub line-of : List (List ℕ) → List ℕ
-line-of [] = []
-line-of (w ∷ []) = w ++ (10 ∷ [])
-line-of (w ∷ v ∷ ws) = w ++ (32 ∷ line-of (v ∷ ws))
 
 abbrev pub column-name : Column → List ℕ
 column-name Rule = codes "rule"
