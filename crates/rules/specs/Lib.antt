@@ -1,3 +1,4 @@
 pub mod Ranges
 pub mod Laws
+pub mod Doors
 pub mod Formulas

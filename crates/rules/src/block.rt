@@ -1,9 +1,10 @@
 ghost use mathlib.Core.Path.{_≡_};
 ghost use Prim.Native.Nat.{_<_, _≤_, _^_};
-ghost use Rattle.std.specs.Results.{Cases};
+ghost use Rattle.grid.specs.Doors.{Admits};
 ghost use Rattle.rules.specs.Ranges.{IsSpacing, Crosses};
-ghost use Rattle.rules.specs.Formulas.{spacing, widest, HasSpacings, block, block-ceiling};
-ghost use Rattle.grid.specs.declared.refusal.Refusal.the-variants.{SpacingRange};
+ghost use Rattle.rules.specs.Doors.{spacing-door};
+ghost use Rattle.rules.specs.Formulas.{widest, HasSpacings, block, block-near, block-ceiling};
+use crate::quotient::rounded_up;
 use crate::rule::Rule;
 use crate::spacings::Spacings;
 use grid::Refusal;
@@ -15,10 +16,11 @@ pub struct Block {
 }
 
 impl Block {
-    pub fn new(first: u32, second: u32, third: u32) -> Result<Block, Refusal>
-        ensures { λ r. ⌜ Cases r (λ b. HasSpacings (b .spacings) first second third) (λ e. (e ≡ SpacingRange) × (IsSpacing first × IsSpacing second × IsSpacing third → ⊥)) ⌝ }
+    /// The rule over the spacings of the axes x, y and z, each from 1 to 10,000; refused with `SpacingRange` otherwise.
+    pub fn new(sx: u32, sy: u32, sz: u32) -> Result<Block, Refusal>
+        ensures { λ r. ⌜ Admits r (spacing-door sx sy sz) (λ b. HasSpacings (b .spacings) sx sy sz) ⌝ }
     {
-        let spacings = Spacings::new(first, second, third)?;
+        let spacings = Spacings::new(sx, sy, sz)?;
         Ok(Block { spacings })
     }
 
@@ -45,14 +47,14 @@ fn block_crossing(s: u32, i: u32, g: u64, j: u32, h: u64) -> u32
     if g + apart < h {
         return 1023;
     }
-    let place = (h + s * (i + j) - g).div_ceil(2 * s);
+    let place = rounded_up(h + s * (i + j) - g, 2 * s);
     place as u32
 }
 
 pub impl Rule for Block as BlockRule {
-    ghost near = { λ r d i t g. block (spacing (r .spacings) d) i t g };
+    ghost near = { λ r. block-near (r .spacings) };
 
-    ghost ceiling = { λ r d. block-ceiling (r .spacings) d };
+    ghost ceiling = { λ r. block-ceiling (r .spacings) };
 
     fn ceiling(&self, axis: u8) -> Option<u64> {
         match axis {

@@ -1,9 +1,10 @@
 ghost use mathlib.Core.Path.{_≡_};
 ghost use Prim.Native.Nat.{_<_, _≤_, _^_};
-ghost use Rattle.std.specs.Results.{Cases};
+ghost use Rattle.grid.specs.Doors.{Admits};
 ghost use Rattle.rules.specs.Ranges.{IsSpacing, Crosses};
-ghost use Rattle.rules.specs.Formulas.{spacing, widest, HasSpacings, chess, chess-ceiling};
-ghost use Rattle.grid.specs.declared.refusal.Refusal.the-variants.{SpacingRange};
+ghost use Rattle.rules.specs.Doors.{spacing-door};
+ghost use Rattle.rules.specs.Formulas.{widest, HasSpacings, chess, chess-near, chess-ceiling};
+use crate::quotient::rounded_up;
 use crate::rule::Rule;
 use crate::spacings::Spacings;
 use grid::Refusal;
@@ -15,10 +16,11 @@ pub struct Chess {
 }
 
 impl Chess {
-    pub fn new(first: u32, second: u32, third: u32) -> Result<Chess, Refusal>
-        ensures { λ r. ⌜ Cases r (λ c. HasSpacings (c .spacings) first second third) (λ e. (e ≡ SpacingRange) × (IsSpacing first × IsSpacing second × IsSpacing third → ⊥)) ⌝ }
+    /// The rule over the spacings of the axes x, y and z, each from 1 to 10,000; refused with `SpacingRange` otherwise.
+    pub fn new(sx: u32, sy: u32, sz: u32) -> Result<Chess, Refusal>
+        ensures { λ r. ⌜ Admits r (spacing-door sx sy sz) (λ c. HasSpacings (c .spacings) sx sy sz) ⌝ }
     {
-        let spacings = Spacings::new(first, second, third)?;
+        let spacings = Spacings::new(sx, sy, sz)?;
         Ok(Chess { spacings })
     }
 
@@ -37,18 +39,18 @@ fn chess_crossing(s: u32, i: u32, g: u64, j: u32, h: u64) -> u32
     ensures { λ r. ⌜ Crosses (λ t. chess s i t g) (λ t. chess s j t h) r ⌝ }
 {
     let (s, i, j) = (s as u64, i as u64, j as u64);
-    let reach = (i + j).div_ceil(2).min(j.saturating_sub(g / s));
+    let reach = rounded_up(i + j, 2).min(j.saturating_sub(g / s));
     if h <= g {
         return reach as u32;
     }
-    let place = reach.max(i + h.div_ceil(s));
+    let place = reach.max(i + rounded_up(h, s));
     place.min(1023) as u32
 }
 
 pub impl Rule for Chess as ChessRule {
-    ghost near = { λ r d i t g. chess (spacing (r .spacings) d) i t g };
+    ghost near = { λ r. chess-near (r .spacings) };
 
-    ghost ceiling = { λ r d. chess-ceiling (r .spacings) d };
+    ghost ceiling = { λ r. chess-ceiling (r .spacings) };
 
     fn ceiling(&self, axis: u8) -> Option<u64> {
         match axis {

@@ -1,9 +1,10 @@
 ghost use mathlib.Core.Path.{_≡_};
 ghost use Prim.Native.Nat.{_<_, _≤_, _^_, _*_};
-ghost use Rattle.std.specs.Results.{Cases};
+ghost use Rattle.grid.specs.Doors.{Admits};
 ghost use Rattle.rules.specs.Ranges.{IsSpacing, Crosses};
-ghost use Rattle.rules.specs.Formulas.{spacing, widest, HasSpacings, square, square-ceiling};
-ghost use Rattle.grid.specs.declared.refusal.Refusal.the-variants.{SpacingRange};
+ghost use Rattle.rules.specs.Doors.{spacing-door};
+ghost use Rattle.rules.specs.Formulas.{widest, HasSpacings, square, square-near, square-ceiling};
+use crate::quotient::rounded_up;
 use crate::rule::Rule;
 use crate::spacings::Spacings;
 use grid::Refusal;
@@ -15,10 +16,11 @@ pub struct Square {
 }
 
 impl Square {
-    pub fn new(first: u32, second: u32, third: u32) -> Result<Square, Refusal>
-        ensures { λ r. ⌜ Cases r (λ q. HasSpacings (q .spacings) first second third) (λ e. (e ≡ SpacingRange) × (IsSpacing first × IsSpacing second × IsSpacing third → ⊥)) ⌝ }
+    /// The rule over the spacings of the axes x, y and z, each from 1 to 10,000; refused with `SpacingRange` otherwise.
+    pub fn new(sx: u32, sy: u32, sz: u32) -> Result<Square, Refusal>
+        ensures { λ r. ⌜ Admits r (spacing-door sx sy sz) (λ q. HasSpacings (q .spacings) sx sy sz) ⌝ }
     {
-        let spacings = Spacings::new(first, second, third)?;
+        let spacings = Spacings::new(sx, sy, sz)?;
         Ok(Square { spacings })
     }
 
@@ -44,14 +46,14 @@ fn square_crossing(s: u32, i: u32, g: u64, j: u32, h: u64) -> u32
     if needed <= g {
         return 0;
     }
-    let place = (needed - g).div_ceil(2 * unit * (j - i));
+    let place = rounded_up(needed - g, 2 * unit * (j - i));
     place.min(1023) as u32
 }
 
 pub impl Rule for Square as SquareRule {
-    ghost near = { λ r d i t g. square (spacing (r .spacings) d) i t g };
+    ghost near = { λ r. square-near (r .spacings) };
 
-    ghost ceiling = { λ r d. square-ceiling (r .spacings) d };
+    ghost ceiling = { λ r. square-ceiling (r .spacings) };
 
     fn ceiling(&self, axis: u8) -> Option<u64> {
         match axis {
