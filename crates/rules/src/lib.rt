@@ -9,6 +9,7 @@ mod quotient;
 mod rule;
 mod spacings;
 mod square;
+mod theorems;
 
 pub use block::Block;
 pub use block::BlockRule;
@@ -20,3 +21,6 @@ pub use spacings::MAX_SPACING;
 pub use spacings::Spacings;
 pub use square::Square;
 pub use square::SquareRule;
+pub use theorems::answers_are_pinned;
+pub use theorems::shortcuts_spoil;
+pub use theorems::worked_examples;
