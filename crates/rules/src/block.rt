@@ -3,7 +3,7 @@ ghost use Prim.Native.Nat.{_<_, _≤_, _^_};
 ghost use Rattle.grid.specs.Doors.{Admits};
 ghost use Rattle.rules.specs.Ranges.{IsSpacing, Crosses};
 ghost use Rattle.rules.specs.Doors.{spacing-door};
-ghost use Rattle.rules.specs.Formulas.{widest, HasSpacings, block, block-near, block-ceiling};
+ghost use Rattle.rules.specs.Formulas.{HasSpacings, block, block-near, block-ceiling};
 use crate::quotient::rounded_up;
 use crate::rule::Rule;
 use crate::spacings::Spacings;
@@ -22,13 +22,6 @@ impl Block {
     {
         let spacings = Spacings::new(sx, sy, sz)?;
         Ok(Block { spacings })
-    }
-
-    fn widest(&self, axis: u8) -> u64
-        ensures value { λ r. ⌜ r ≡ widest (now (self .entry) .spacings) axis ⌝ }
-        ensures small { λ r. ⌜ r ≤ 10220000 ⌝ }
-    {
-        1022 * self.spacings.on(axis) as u64
     }
 }
 
@@ -58,15 +51,15 @@ pub impl Rule for Block as BlockRule {
 
     fn ceiling(&self, axis: u8) -> Option<u64> {
         match axis {
-            1 => Some(self.widest(1)),
-            2 => Some(self.widest(1) + self.widest(2)),
-            3 => Some(self.widest(1) + self.widest(2) + self.widest(3)),
+            1 => Some(self.spacings.widest(1)),
+            2 => Some(self.spacings.widest(1) + self.spacings.widest(2)),
+            3 => Some(self.spacings.widest(1) + self.spacings.widest(2) + self.spacings.widest(3)),
             _ => None,
         }
     }
 
     fn near_in(&self, axis: u8, from: u32, at: u32, carried: u64) -> u64 {
-        let gap = self.spacings.on(axis) as u64 * from.abs_diff(at) as u64;
+        let gap = self.spacings.gap(axis, from, at);
         carried + gap
     }
 

@@ -3,7 +3,7 @@ ghost use Prim.Native.Nat.{_<_, _≤_, _^_};
 ghost use Rattle.grid.specs.Doors.{Admits};
 ghost use Rattle.rules.specs.Ranges.{IsSpacing, Crosses};
 ghost use Rattle.rules.specs.Doors.{spacing-door};
-ghost use Rattle.rules.specs.Formulas.{widest, HasSpacings, chess, chess-near, chess-ceiling};
+ghost use Rattle.rules.specs.Formulas.{HasSpacings, chess, chess-near, chess-ceiling};
 use crate::quotient::rounded_up;
 use crate::rule::Rule;
 use crate::spacings::Spacings;
@@ -22,12 +22,6 @@ impl Chess {
     {
         let spacings = Spacings::new(sx, sy, sz)?;
         Ok(Chess { spacings })
-    }
-
-    fn widest(&self, axis: u8) -> u64
-        ensures { λ r. ⌜ r ≡ widest (now (self .entry) .spacings) axis ⌝ }
-    {
-        1022 * self.spacings.on(axis) as u64
     }
 }
 
@@ -54,15 +48,20 @@ pub impl Rule for Chess as ChessRule {
 
     fn ceiling(&self, axis: u8) -> Option<u64> {
         match axis {
-            1 => Some(self.widest(1)),
-            2 => Some(self.widest(1).max(self.widest(2))),
-            3 => Some(self.widest(1).max(self.widest(2)).max(self.widest(3))),
+            1 => Some(self.spacings.widest(1)),
+            2 => Some(self.spacings.widest(1).max(self.spacings.widest(2))),
+            3 => Some(
+                self.spacings
+                    .widest(1)
+                    .max(self.spacings.widest(2))
+                    .max(self.spacings.widest(3)),
+            ),
             _ => None,
         }
     }
 
     fn near_in(&self, axis: u8, from: u32, at: u32, carried: u64) -> u64 {
-        let gap = self.spacings.on(axis) as u64 * from.abs_diff(at) as u64;
+        let gap = self.spacings.gap(axis, from, at);
         carried.max(gap)
     }
 

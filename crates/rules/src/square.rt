@@ -24,11 +24,12 @@ impl Square {
         Ok(Square { spacings })
     }
 
+    /// The square of the widest gap on the axis.
     fn widest_squared(&self, axis: u8) -> u64
         ensures value { λ r. ⌜ r ≡ widest (now (self .entry) .spacings) axis * widest (now (self .entry) .spacings) axis ⌝ }
         ensures small { λ r. ⌜ r ≤ 104448400000000 ⌝ }
     {
-        let widest = 1022 * self.spacings.on(axis) as u64;
+        let widest = self.spacings.widest(axis);
         widest * widest
     }
 }
@@ -65,7 +66,7 @@ pub impl Rule for Square as SquareRule {
     }
 
     fn near_in(&self, axis: u8, from: u32, at: u32, carried: u64) -> u64 {
-        let gap = self.spacings.on(axis) as u64 * from.abs_diff(at) as u64;
+        let gap = self.spacings.gap(axis, from, at);
         carried + gap * gap
     }
 

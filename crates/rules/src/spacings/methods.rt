@@ -1,7 +1,8 @@
 ghost use mathlib.Core.Path.{_≡_};
+ghost use Prim.Native.Nat.{_≤_};
 ghost use Rattle.grid.specs.Doors.{Admits};
 ghost use Rattle.rules.specs.Doors.{is-spacing, spacing-door};
-ghost use Rattle.rules.specs.Formulas.{spacing, HasSpacings};
+ghost use Rattle.rules.specs.Formulas.{spacing, gap, widest, HasSpacings};
 use crate::spacings::MAX_SPACING;
 use crate::spacings::Spacings;
 use grid::Refusal;
@@ -29,6 +30,21 @@ impl Spacings {
         } else {
             self.sz
         }
+    }
+
+    /// How far apart two places of the axis are.
+    pub(crate) fn gap(&self, axis: u8, from: u32, at: u32) -> u64
+        ensures { λ r. ⌜ r ≡ gap (spacing (now (self .entry)) axis) from at ⌝ }
+    {
+        self.on(axis) as u64 * from.abs_diff(at) as u64
+    }
+
+    /// The widest gap on the axis.
+    pub(crate) fn widest(&self, axis: u8) -> u64
+        ensures value { λ r. ⌜ r ≡ widest (now (self .entry)) axis ⌝ }
+        ensures small { λ r. ⌜ r ≤ 10220000 ⌝ }
+    {
+        1022 * self.on(axis) as u64
     }
 }
 
