@@ -5,7 +5,7 @@ use native.Mathlib.Omega.{arith}
 use Rattle.rules.specs.declared.spacings.Spacings.{Spacings}
 use Rattle.rules.specs.Ranges.{Crosses, Carries, Paired}
 use Rattle.rules.specs.Laws.{Crossing}
-use Rattle.rules.specs.Formulas.{HasSpacings, spacing, gap, square, block, chess}
+use Rattle.rules.specs.Formulas.{HasSpacings, spacing, apart, gap, square, block, chess}
 use Rattle.rules.specs.Examples.{Distances, Crossings, WorkedExamples, ShortcutsSpoil, capped-square}
 use Rattle.rules.proofs.Squares.{square-low, square-at}
 use Rattle.rules.proofs.Blocks.{block-at, block-never}
@@ -56,7 +56,7 @@ worked-examples =
       crossings = crossings;
     }
 
-capped-at : (n i t w : ℕ) → (i - t) + (t - i) ≡ w → capped-square n 1 i t 0 ≡ min n (0 + w * w)
+capped-at : (n i t w : ℕ) → apart i t ≡ w → capped-square n 1 i t 0 ≡ min n (0 + w * w)
 capped-at n i t w h = let e : gap 1 i t ≡ w = omega arith in ap (λ (x : ℕ). min n (0 + x * x)) e
 
 -- the points at a and a + 1 tie at place 0, where both are capped, and at place 1 only the later still is

@@ -9,7 +9,7 @@ use crate::rule::Rule;
 use crate::spacings::Spacings;
 use grid::Refusal;
 
-/// Gaps, added up.
+/// The block rule: a point costs what it carries and its gap.
 #[derive(Clone, Copy)]
 pub struct Block {
     spacings: Spacings,
@@ -25,7 +25,7 @@ impl Block {
     }
 }
 
-/// The lowest place at which a point at `j` that carries `h` is no farther than one at `i` that carries `g`.
+/// The lowest place at which a point at `j` that carries `h` is no farther than one at `i` that carries `g`, or 1,023.
 fn block_crossing(s: u32, i: u32, g: u64, j: u32, h: u64) -> u32
     requires allowed { ⌜ IsSpacing s ⌝ }
     requires places { ⌜ (i < j) × (j < 1023) ⌝ }
@@ -40,6 +40,7 @@ fn block_crossing(s: u32, i: u32, g: u64, j: u32, h: u64) -> u32
     if g + apart < h {
         return 1023;
     }
+    // Between the two points the later one gains `2 * s` with each place.
     let place = rounded_up(h + s * (i + j) - g, 2 * s);
     place as u32
 }

@@ -9,7 +9,7 @@ use crate::rule::Rule;
 use crate::spacings::Spacings;
 use grid::Refusal;
 
-/// The widest gap.
+/// The chess rule: a point costs what it carries or its gap, whichever is larger.
 #[derive(Clone, Copy)]
 pub struct Chess {
     spacings: Spacings,
@@ -25,7 +25,7 @@ impl Chess {
     }
 }
 
-/// The lowest place at which a point at `j` that carries `h` is no farther than one at `i` that carries `g`.
+/// The lowest place at which a point at `j` that carries `h` is no farther than one at `i` that carries `g`, or 1,023.
 fn chess_crossing(s: u32, i: u32, g: u64, j: u32, h: u64) -> u32
     requires allowed { ⌜ IsSpacing s ⌝ }
     requires places { ⌜ (i < j) × (j < 1023) ⌝ }
@@ -33,10 +33,12 @@ fn chess_crossing(s: u32, i: u32, g: u64, j: u32, h: u64) -> u32
     ensures { λ r. ⌜ Crosses (λ t. chess s i t g) (λ t. chess s j t h) r ⌝ }
 {
     let (s, i, j) = (s as u64, i as u64, j as u64);
+    // From `reach` on the later point's gap is covered, by the earlier point's gap or by what that carries.
     let reach = rounded_up(i + j, 2).min(j.saturating_sub(g / s));
     if h <= g {
         return reach as u32;
     }
+    // And what the later carries is covered from where the earlier point's gap is as wide.
     let place = reach.max(i + rounded_up(h, s));
     place.min(1023) as u32
 }

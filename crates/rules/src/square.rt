@@ -9,7 +9,7 @@ use crate::rule::Rule;
 use crate::spacings::Spacings;
 use grid::Refusal;
 
-/// Squared gaps, added up.
+/// The square rule: a point costs what it carries and the square of its gap.
 #[derive(Clone, Copy)]
 pub struct Square {
     spacings: Spacings,
@@ -34,7 +34,7 @@ impl Square {
     }
 }
 
-/// The lowest place at which a point at `j` that carries `h` is no farther than one at `i` that carries `g`.
+/// The lowest place at which a point at `j` that carries `h` is no farther than one at `i` that carries `g`, or 1,023.
 fn square_crossing(s: u32, i: u32, g: u64, j: u32, h: u64) -> u32
     requires allowed { ⌜ IsSpacing s ⌝ }
     requires places { ⌜ (i < j) × (j < 1023) ⌝ }
@@ -43,6 +43,7 @@ fn square_crossing(s: u32, i: u32, g: u64, j: u32, h: u64) -> u32
 {
     let (i, j) = (i as u64, j as u64);
     let unit = s as u64 * s as u64;
+    // At place 0 the later point lacks `needed - g`, and it gains `2 * unit * (j - i)` with each place.
     let needed = unit * (j * j - i * i) + h;
     if needed <= g {
         return 0;
