@@ -8,7 +8,7 @@ ghost use Rattle.numerals.specs.Numerals.{Reads, Unread, ending-byte};
 ghost use Rattle.numerals.specs.Prefixes.{Follows, NotPrefix};
 
 /// The byte that closes a number.
-#[derive(Clone, Copy, PartialEq, Eq, Debug)]
+#[derive(Clone, Copy)]
 pub enum Ending {
     Space,
     LineFeed,
