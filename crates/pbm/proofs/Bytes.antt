@@ -1,5 +1,5 @@
 -- Where the bytes of an image lie in a stack.
-use Prim.Native.Nat.{ℕ, zero, suc, _+_, _-_, _*_, _/_, _%_, _^_, _<_, _≤_}
+use Prim.Native.Nat.{ℕ, zero, suc, _+_, _-_, _*_, _/_, _<_}
 use native.Mathlib.Omega.{arith}
 use native.Mathlib.Nat.{zero-mul, suc-mul, mul-comm}
 use mathlib.Core.Path.{_≡_, refl, sym, ap, fun-ext, _∙_}
