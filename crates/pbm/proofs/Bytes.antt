@@ -1,5 +1,5 @@
 -- Where the bytes of an image lie in a stack.
-use Prim.Native.Nat.{ℕ, zero, suc, _+_, _-_, _*_, _/_, _%_, _^_, _<_, _≤_}
+use Prim.Native.Nat.{ℕ, zero, suc, _+_, _-_, _*_, _/_, _<_}
 use native.Mathlib.Omega.{arith}
 use native.Mathlib.Nat.{zero-mul, suc-mul, mul-comm}
 use mathlib.Core.Path.{_≡_, refl, sym, ap, fun-ext, _∙_}
@@ -17,7 +17,7 @@ use Rattle.grid.specs.Geometry.{Place, inside}
 use Rattle.grid.specs.Grids.{as-grid-keeps-grids}
 use Rattle.grid.proofs.Places.{below-from-inside}
 use Rattle.pbm.specs.Form.{header, raster-bytes, row-bytes, images-of, AllFull, IsStack}
-use Rattle.pbm.specs.Marks.{bit-is-set, raster-place, raster-cells, image-bytes, stack-cells, byte-at, stack-extent, stack-marks}
+use Rattle.pbm.specs.Marks.{bit-is-set, raster-place, raster-cells, image-bytes, stack-cells, byte-at, bit-at, stack-extent, stack-marks}
 use Rattle.pbm.specs.Promises.{LiesOver, Shows}
 use Rattle.pbm.specs.declared.stack.Stack.{Stack}
 
@@ -92,7 +92,7 @@ cells-of-rasters s bytes form rasters full whole =
 
 -- the marks by given sizes
 marks-by : Stack → Sizes → Place → Bool
-marks-by s n at = inside n at && (ltb (byte-at s n at) (length (now (s .bytes))) && bit-is-set (getD (now (s .bytes)) (byte-at s n at) 0) (at .0))
+marks-by s n at = inside n at && bit-at s n at
 
 held-marks : (s : Stack) (at : Place) → LiesOver s (now (s .bytes)) → marks-by s (s .sizes) at ≡ stack-cells (s .sizes) (now (s .bytes)) at
 unfolding marks-by

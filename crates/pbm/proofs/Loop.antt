@@ -2,14 +2,14 @@
 use Prim.Native.Nat.{ℕ, _+_, _-_, _<_, _≤_}
 use native.Mathlib.Omega.{arith}
 use mathlib.Core.Path.{_≡_, refl, sym, ap, subst, _∙_}
-use mathlib.Core.Logic.{_⊎_, inl, inr, ⊎-elim}
+use mathlib.Core.Logic.{_⊎_, inl, inr}
 use mathlib.Core.List.{List, [], _∷_, _++_}
 use lib.ListN.{length}
 use Rattle.std.proofs.shelf.Elements.{all-push}
 use Rattle.std.proofs.shelf.Lists.{append-assoc, append-nil, length-append, length-push, joined-more}
 use Rattle.numerals.specs.Numerals.{numeral, space}
 use Rattle.pbm.specs.Form.{header, raster-bytes, images-of, AllFull, IsStack, sizes-of}
-use Rattle.pbm.specs.Faults.{Opens, Begins, NoWidth, NoHeight, Resized, FaultyHeader, FaultyImage, FirstFaulty}
+use Rattle.pbm.specs.Faults.{Opens, Begins, Resized, FaultyHeader, FaultyImage, FirstFaulty}
 use Rattle.pbm.specs.declared.faults.Cause.{Cause}
 use Rattle.pbm.specs.declared.faults.Cause.the-variants.{Magic, Number, Short, OtherSize, TooLarge}
 use Rattle.pbm.specs.declared.faults.StackFault.{StackFault}
@@ -28,9 +28,6 @@ shorter text more w h b =
     let e = ap length (b .whole) ∙ length-append (header w h ++ b .raster) more in
     let f = length-append (header w h) (b .raster) in
     omega (arith, e, f)
-
-pub passed-none : (bytes : List ℕ) (w h : ℕ) → Passed bytes bytes w h 0
-passed-none bytes w h = record { before = []; full = tt; whole = refl; count = refl; room = omega arith }
 
 pub passed-more : (bytes rest more : List ℕ) (w h n : ℕ) → Passed bytes rest w h n → Begins rest w h more → Passed bytes more w h (n + 1)
 passed-more bytes rest more w h n p b =

@@ -1,5 +1,5 @@
 -- Bytes have at most one fault, and none where they are a stack of a grid's sizes.
-use Prim.Native.Nat.{ℕ, suc, _+_, _<_, _≤_}
+use Prim.Native.Nat.{ℕ, suc, _+_, _≤_}
 use native.Mathlib.Omega.{arith}
 use mathlib.Core.Path.{_≡_, refl, sym, ap, subst, _∙_}
 use mathlib.Core.Logic.{_⊎_, inl, inr, ⊎-elim}
@@ -14,7 +14,7 @@ use Rattle.grid.specs.Geometry.{IsGrid}
 use Rattle.numerals.specs.Numerals.{numeral, space}
 use Rattle.numerals.proofs.Reading.{reads-same}
 use Rattle.pbm.specs.Form.{magic, header, raster-bytes, images-of, AllFull, IsStack}
-use Rattle.pbm.specs.Faults.{Begins, NoWidth, NoHeight, FaultyImage, FirstFaulty, OverLimits, FaultyBytes}
+use Rattle.pbm.specs.Faults.{Begins, NoWidth, NoHeight, FaultyImage, FirstFaulty, FaultyBytes}
 use Rattle.pbm.specs.Promises.{Shows, AcceptsStacks, TellsFault, FaultWithin}
 use Rattle.pbm.specs.declared.faults.Cause.{Cause}
 use Rattle.pbm.specs.declared.faults.Cause.the-variants.{Magic, Number, Short, OtherSize, TooLarge}

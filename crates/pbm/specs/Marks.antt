@@ -35,15 +35,15 @@ stack-cells s bytes at = inside s at && bit-is-set (getD bytes (at .2 * image-by
 abbrev pub stack-extent : Stack → Sizes
 stack-extent s = as-grid (s .sizes)
 
--- the byte that has the bit of a place
+-- the byte that has the bit of a place of a grid of these sizes
 abbrev pub byte-at : Stack → Sizes → Place → ℕ
 byte-at s n at = at .2 * s .stride + (s .skip + raster-place (n .nx) (at .0) (at .1))
 
-abbrev pub bit-at : Stack → Place → Bool
-bit-at s at = ltb (byte-at s (stack-extent s) at) (length (now (s .bytes))) && bit-is-set (getD (now (s .bytes)) (byte-at s (stack-extent s) at) 0) (at .0)
+abbrev pub bit-at : Stack → Sizes → Place → Bool
+bit-at s n at = ltb (byte-at s n at) (length (now (s .bytes))) && bit-is-set (getD (now (s .bytes)) (byte-at s n at) 0) (at .0)
 
 abbrev pub stack-marks : Stack → Place → Bool
-stack-marks s at = inside (stack-extent s) at && bit-at s at
+stack-marks s at = inside (stack-extent s) at && bit-at s (stack-extent s) at
 
 pub stack-lawful : Lawful stack-extent stack-marks
-stack-lawful = lawful-as-grid (λ s. s .sizes) bit-at
+stack-lawful = lawful-as-grid (λ s. s .sizes) (λ s at. bit-at s (stack-extent s) at)

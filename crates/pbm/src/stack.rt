@@ -1,12 +1,13 @@
 ghost use mathlib.Core.Path.{_≡_};
+ghost use mathlib.Core.Bool.{true};
 ghost use mathlib.Core.List.{List};
 ghost use Prim.Native.Nat.{ℕ};
 ghost use Rattle.std.specs.Numbers.{Checked};
 ghost use Rattle.std.specs.Results.{Cases};
-ghost use Rattle.grid.specs.Geometry.{IsGrid};
+ghost use Rattle.grid.specs.Geometry.{IsGrid, inside};
 ghost use Rattle.pbm.specs.Form.{IsStack, sizes-of};
 ghost use Rattle.pbm.specs.Faults.{Opens, FaultyBytes};
-ghost use Rattle.pbm.specs.Marks.{bit-is-set, stack-extent, stack-marks, stack-lawful};
+ghost use Rattle.pbm.specs.Marks.{bit-is-set, bit-at, stack-extent, stack-marks, stack-lawful};
 ghost use Rattle.pbm.specs.Promises.{Shows, AcceptsStacks, TellsFault, FaultWithin};
 use crate::faults::Cause;
 use crate::faults::StackFault;
@@ -115,6 +116,18 @@ impl<'a> Stack<'a> {
     {
         read_stack(bytes)
     }
+
+    /// Whether the byte of a place of the grid is there, with the place's bit set.
+    fn bit_at(&self, sizes: Sizes, place: (u32, u32, u32)) -> bool
+        requires grid { ⌜ IsGrid sizes ⌝ }
+        requires within { ⌜ inside sizes place ≡ true ⌝ }
+        ensures { λ r. ⌜ r ≡ bit-at (now (self .entry)) sizes place ⌝ }
+    {
+        let (x, y, z) = place;
+        let in_image = self.skip as usize + (y as usize * row_bytes(sizes.nx) + (x / 8) as usize);
+        let at = z as usize * self.stride as usize + in_image;
+        at < self.bytes.len() && bit_is_set(self.bytes[at], x)
+    }
 }
 
 pub impl<'a> Picture for Stack<'a> as StackPicture {
@@ -129,13 +142,7 @@ pub impl<'a> Picture for Stack<'a> as StackPicture {
     }
 
     fn marked(&self, place: (u32, u32, u32)) -> bool {
-        let sizes = self.sizes.as_grid();
-        if !sizes.contains(place) {
-            return false;
-        }
-        let (x, y, z) = place;
-        let within = self.skip as usize + (y as usize * row_bytes(sizes.nx) + (x / 8) as usize);
-        let at = z as usize * self.stride as usize + within;
-        at < self.bytes.len() && bit_is_set(self.bytes[at], x)
+        let sizes = self.sizes();
+        sizes.contains(place) && self.bit_at(sizes, place)
     }
 }

@@ -1,18 +1,9 @@
-use native.Mathlib.Omega.{arith}
+use borrow.Author.Needs.{needs}
 use mathlib.Core.Path.{sym, subst}
-use Rattle.std.proofs.shelf.Bits.{mul-le}
 use Rattle.grid.specs.Geometry.{IsGrid}
 use Rattle.grid.specs.Grids.{as-grid-is-grid}
-use Rattle.grid.proofs.Places.{below-from-inside}
 use Rattle.pbm.proofs.stack.StackPicture.marked.Needs as need
 
-pub add-at : need.add-at
-add-at c =
-    let sizes = c .as-grid-sizes .result in
-    let grid : IsGrid sizes = subst IsGrid (sym (c .as-grid-sizes .ensures)) (as-grid-is-grid (c .args .self .now .sizes)) in
-    let b = below-from-inside sizes (c .args .place) (sym (c .if-not-contains .ensures tt)) in
-    omega (
-      arith,
-      mul-le (c .args .place .2) (c .args .self .now .stride) 1023 4294967296 (omega (arith, b .z, grid .0 .2 .1)) (omega arith),
-      mul-le (c .args .place .1) (c .row-bytes .result) 1023 128 (omega (arith, b .y, grid .0 .1 .1)) (omega (arith, c .row-bytes .ensures, grid .0 .0 .1)),
-    )
+pub bit-at-requires : need.bit-at-requires
+bit-at-requires c κs =
+    record { grid = subst IsGrid (sym (c .sizes-sizes .ensures)) (as-grid-is-grid (c .args .self .now .sizes)); within = search needs }
