@@ -1,0 +1,9 @@
+pub mod Axes
+pub mod Tests
+pub mod Corners
+pub mod SameFaces
+pub mod Crossings
+pub mod Halving
+pub mod Greying
+pub mod Counting
+pub mod Finding

@@ -1,0 +1,8 @@
+-- The marks of a picture, by cell number in place of place.
+use mathlib.Core.Bool.{Bool}
+use Rattle.grid.specs.declared.sizes.Sizes.{Sizes}
+use Rattle.grid.specs.Geometry.{Place, place-of}
+use Rattle.grid.specs.Cells.{Marks}
+
+abbrev pub marks-by-number : Sizes → (Place → Bool) → Marks
+marks-by-number s marks k = marks (place-of s k)
