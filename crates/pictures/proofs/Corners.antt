@@ -10,7 +10,7 @@ use Rattle.grid.specs.declared.sizes.Sizes.{Sizes}
 use Rattle.grid.specs.Geometry.{Place, SizesFit, is-grid, as-grid, one-cell, inside}
 use Rattle.grid.proofs.Places.{below-from-inside, inside-from-below}
 use Rattle.pictures.specs.Faces.{Axis, first, second, third, along, midway, Neighbours, AtMostOneApart, FacePlace, half-sizes, half-extent, half-marks, low, high, differ, mixed-corners}
-use Rattle.pictures.proofs.Tests.{one-from-differ, differ-from-one, differ-self, differ-sym, differ-via}
+use Rattle.pictures.proofs.Differing.{one-from-differ, differ-from-one, differ-self, differ-sym, differ-via}
 use Rattle.pictures.proofs.Axes.{size-on, inside-on, inside-from-axes, half-size-on, midway-on, same-axis, moved, moved-on, moved-off, moved-nowhere, moved-keeps}
 
 -- one of the two cells beside a place on one axis

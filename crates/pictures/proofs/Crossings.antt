@@ -10,7 +10,7 @@ use Rattle.grid.specs.declared.sizes.Sizes.{Sizes}
 use Rattle.grid.specs.Geometry.{Place, inside}
 use Rattle.pictures.specs.Faces.{Axis, first, second, third, along, midway, differ, FacePlace, doubled}
 use Rattle.pictures.specs.Theorems.{Both-kinds-have-a-face}
-use Rattle.pictures.proofs.Tests.{one-from-differ, differ-self, differ-sym, differ-via}
+use Rattle.pictures.proofs.Differing.{one-from-differ, differ-self, differ-sym, differ-via}
 use Rattle.pictures.proofs.Axes.{size-on, inside-on, inside-from-axes, midway-inside, moved, moved-on, moved-off, moved-nowhere, moved-keeps}
 
 -- a change between neighbours, both below n

@@ -17,7 +17,7 @@ use Rattle.grid.proofs.Places.{number-inside}
 use Rattle.pictures.specs.Doors.{grey-door}
 use Rattle.pictures.specs.Greys.{IsGrey, grey-extent, grey-marks, byte-reaches}
 use Rattle.pictures.specs.declared.grey.Grey.{Grey}
-use Rattle.pictures.proofs.Tests.{and-same}
+use Rattle.pictures.proofs.Differing.{and-same}
 
 every-byte-there : (s : Sizes) (threshold : ℕ) (bytes : List ℕ) (at : Place) → length bytes ≡ cell-count s → (inside s at && byte-reaches bytes threshold (cell-number s at)) ≡ (inside s at && leb threshold (getD bytes (cell-number s at) 0))
 every-byte-there s threshold bytes at many =

@@ -1,5 +1,5 @@
 pub mod Axes
-pub mod Tests
+pub mod Differing
 pub mod Corners
 pub mod SameFaces
 pub mod Crossings

@@ -7,7 +7,7 @@ use Rattle.grid.specs.Geometry.{Place, inside}
 use Rattle.pictures.specs.Faces.{FacePlace, half-marks}
 use Rattle.pictures.specs.Negatives.{negative-marks}
 use Rattle.pictures.specs.Theorems.{Negative-has-same-faces}
-use Rattle.pictures.proofs.Tests.{not-injective}
+use Rattle.pictures.proofs.Differing.{not-injective}
 use Rattle.pictures.proofs.Corners.{half-marks-faces}
 
 -- other marks that also differ at the two cells of the face

@@ -4,6 +4,8 @@ mod grey;
 mod half_grid;
 mod negative;
 mod picture;
+#[cfg(test)]
+mod tests;
 mod theorems;
 
 pub use counts::count_marked;
