@@ -1,13 +1,13 @@
 -- Places of a grid and of its half-grid, one axis at a time.
 use Prim.Native.Nat.{ℕ, _+_, _-_, _*_, _<_}
 use native.Mathlib.Omega.{arith}
-use mathlib.Core.Path.{_≡_, refl, sym, ap, subst, _∙_}
+use mathlib.Core.Path.{_≡_, refl, ap}
 use mathlib.Core.Logic.{_≢_, _⊎_, inl, inr}
-use mathlib.Core.Bool.{Bool, true}
+use mathlib.Core.Bool.{true}
 use Rattle.grid.specs.declared.sizes.Sizes.{Sizes}
 use Rattle.grid.specs.Geometry.{Place, inside}
 use Rattle.grid.proofs.Places.{below-from-inside, inside-from-below}
-use Rattle.pictures.specs.Faces.{Axis, first, second, third, along, half-sizes, doubled, midway}
+use Rattle.pictures.specs.Faces.{Axis, first, second, third, along, half-sizes, midway}
 
 abbrev pub size-on : Axis → Sizes → ℕ
 size-on first s = s .nx

@@ -1,15 +1,15 @@
 -- The corners of a place of the half-grid are not all alike exactly where the place is a face place.
-use Prim.Native.Nat.{ℕ, _+_, _-_, _*_, _/_, _<_, _≤_}
+use Prim.Native.Nat.{ℕ, _+_, _-_, _*_, _/_, _<_}
 use native.Mathlib.Omega.{arith}
 use mathlib.Core.Path.{_≡_, refl, sym, ap, subst, _∙_}
-use mathlib.Core.Bool.{Bool, true, false, not, _&&_, _||_}
-use mathlib.Core.Logic.{_≢_, _⊎_, inl, inr, ⊎-elim}
+use mathlib.Core.Bool.{Bool, true, false}
+use mathlib.Core.Logic.{_⊎_, inl, inr, ⊎-elim}
 use Rattle.std.specs.Orderings.{Decides}
-use Rattle.std.proofs.shelf.Tests.{and-parts, and-from, or-cases, or-left, or-right, cases-lt, cond-both, both-ways}
+use Rattle.std.proofs.shelf.Tests.{and-parts, and-from, or-cases, cases-lt, cond-both, both-ways}
 use Rattle.grid.specs.declared.sizes.Sizes.{Sizes}
 use Rattle.grid.specs.Geometry.{Place, SizesFit, is-grid, as-grid, one-cell, inside}
 use Rattle.grid.proofs.Places.{below-from-inside, inside-from-below}
-use Rattle.pictures.specs.Faces.{Axis, first, second, third, along, midway, Neighbours, AtMostOneApart, FacePlace, half-sizes, half-extent, half-marks, low, high, differ, mixed-corners}
+use Rattle.pictures.specs.Faces.{Axis, first, second, third, along, midway, AtMostOneApart, FacePlace, half-sizes, half-extent, half-marks, low, high, differ, other-corner, mixed-corners}
 use Rattle.pictures.proofs.Differing.{one-from-differ, differ-from-one, differ-self, differ-sym, differ-via}
 use Rattle.pictures.proofs.Axes.{size-on, inside-on, inside-from-axes, half-size-on, midway-on, same-axis, moved, moved-on, moved-off, moved-nowhere, moved-keeps}
 
@@ -51,41 +51,45 @@ at-corner p c x y z third = z
 abbrev low-corner : Place → Place
 low-corner p = (low (p .0), low (p .1), low (p .2))
 
--- the other seven corners
-abbrev seven : (ℕ → ℕ → ℕ → Bool) → Place → Bool
-seven u p = u (high (p .0)) (low (p .1)) (low (p .2)) || (u (low (p .0)) (high (p .1)) (low (p .2)) || (u (high (p .0)) (high (p .1)) (low (p .2)) || (u (low (p .0)) (low (p .1)) (high (p .2)) || (u (high (p .0)) (low (p .1)) (high (p .2)) || (u (low (p .0)) (high (p .1)) (high (p .2)) || u (high (p .0)) (high (p .1)) (high (p .2)))))))
+module _ (test : ℕ → ℕ → ℕ → Bool) (p : Place) where
+  abbrev Found : Type 0
+  Found = (c : Place) × Corner p c × (test (c .0) (c .1) (c .2) ≡ true)
 
-some-of : (u : ℕ → ℕ → ℕ → Bool) (p : Place) → seven u p ≡ true → (c : Place) × Corner p c × (u (c .0) (c .1) (c .2) ≡ true)
-some-of u p h =
-    ⊎-elim (λ e. ((high (p .0), low (p .1), low (p .2)), at-corner p (high (p .0), low (p .1), low (p .2)) (inr refl) (inl refl) (inl refl), e))
-    (λ h₁. ⊎-elim (λ e. ((low (p .0), high (p .1), low (p .2)), at-corner p (low (p .0), high (p .1), low (p .2)) (inl refl) (inr refl) (inl refl), e))
-    (λ h₂. ⊎-elim (λ e. ((high (p .0), high (p .1), low (p .2)), at-corner p (high (p .0), high (p .1), low (p .2)) (inr refl) (inr refl) (inl refl), e))
-    (λ h₃. ⊎-elim (λ e. ((low (p .0), low (p .1), high (p .2)), at-corner p (low (p .0), low (p .1), high (p .2)) (inl refl) (inl refl) (inr refl), e))
-    (λ h₄. ⊎-elim (λ e. ((high (p .0), low (p .1), high (p .2)), at-corner p (high (p .0), low (p .1), high (p .2)) (inr refl) (inl refl) (inr refl), e))
-    (λ h₅. ⊎-elim (λ e. ((low (p .0), high (p .1), high (p .2)), at-corner p (low (p .0), high (p .1), high (p .2)) (inl refl) (inr refl) (inr refl), e))
-    (λ e. ((high (p .0), high (p .1), high (p .2)), at-corner p (high (p .0), high (p .1), high (p .2)) (inr refl) (inr refl) (inr refl), e))
-    (or-cases (u (low (p .0)) (high (p .1)) (high (p .2))) _ h₅))
-    (or-cases (u (high (p .0)) (low (p .1)) (high (p .2))) _ h₄))
-    (or-cases (u (low (p .0)) (low (p .1)) (high (p .2))) _ h₃))
-    (or-cases (u (high (p .0)) (high (p .1)) (low (p .2))) _ h₂))
-    (or-cases (u (low (p .0)) (high (p .1)) (low (p .2))) _ h₁))
-    (or-cases (u (high (p .0)) (low (p .1)) (low (p .2))) _ h)
+  abbrev other : Bool
+  other = other-corner test (low (p .0)) (high (p .0)) (low (p .1)) (high (p .1)) (low (p .2)) (high (p .2))
 
-of-some : (u : ℕ → ℕ → ℕ → Bool) (p c : Place) → Corner p c → u (low (p .0)) (low (p .1)) (low (p .2)) ≡ false → u (c .0) (c .1) (c .2) ≡ true → seven u p ≡ true
-of-some u p c k none h =
-    ⊎-elim
-    (λ ex. ⊎-elim
-    (λ ey. ⊎-elim (λ ez. absurd (both-ways _ none (at ex ey ez))) (λ ez. or-right (u (high (p .0)) (low (p .1)) (low (p .2))) _ (or-right (u (low (p .0)) (high (p .1)) (low (p .2))) _ (or-right (u (high (p .0)) (high (p .1)) (low (p .2))) _ (or-left (u (low (p .0)) (low (p .1)) (high (p .2))) _ (at ex ey ez))))) (k third))
-    (λ ey. ⊎-elim (λ ez. or-right (u (high (p .0)) (low (p .1)) (low (p .2))) _ (or-left (u (low (p .0)) (high (p .1)) (low (p .2))) _ (at ex ey ez))) (λ ez. or-right (u (high (p .0)) (low (p .1)) (low (p .2))) _ (or-right (u (low (p .0)) (high (p .1)) (low (p .2))) _ (or-right (u (high (p .0)) (high (p .1)) (low (p .2))) _ (or-right (u (low (p .0)) (low (p .1)) (high (p .2))) _ (or-right (u (high (p .0)) (low (p .1)) (high (p .2))) _ (or-left (u (low (p .0)) (high (p .1)) (high (p .2))) _ (at ex ey ez))))))) (k third))
-    (k second))
-    (λ ex. ⊎-elim
-    (λ ey. ⊎-elim (λ ez. or-left (u (high (p .0)) (low (p .1)) (low (p .2))) _ (at ex ey ez)) (λ ez. or-right (u (high (p .0)) (low (p .1)) (low (p .2))) _ (or-right (u (low (p .0)) (high (p .1)) (low (p .2))) _ (or-right (u (high (p .0)) (high (p .1)) (low (p .2))) _ (or-right (u (low (p .0)) (low (p .1)) (high (p .2))) _ (or-left (u (high (p .0)) (low (p .1)) (high (p .2))) _ (at ex ey ez)))))) (k third))
-    (λ ey. ⊎-elim (λ ez. or-right (u (high (p .0)) (low (p .1)) (low (p .2))) _ (or-right (u (low (p .0)) (high (p .1)) (low (p .2))) _ (or-left (u (high (p .0)) (high (p .1)) (low (p .2))) _ (at ex ey ez)))) (λ ez. or-right (u (high (p .0)) (low (p .1)) (low (p .2))) _ (or-right (u (low (p .0)) (high (p .1)) (low (p .2))) _ (or-right (u (high (p .0)) (high (p .1)) (low (p .2))) _ (or-right (u (low (p .0)) (low (p .1)) (high (p .2))) _ (or-right (u (high (p .0)) (low (p .1)) (high (p .2))) _ (or-right (u (low (p .0)) (high (p .1)) (high (p .2))) _ (at ex ey ez))))))) (k third))
-    (k second))
-    (k first)
-  where
-    at : {x y z : ℕ} → c .0 ≡ x → c .1 ≡ y → c .2 ≡ z → u x y z ≡ true
-    at {x} {y} ex ey ez = sym (ap (λ i. u i (c .1) (c .2)) ex ∙ ap (λ i. u x i (c .2)) ey ∙ ap (u x y) ez) ∙ h
+  found-other : other ≡ true → Found
+  found-other h =
+      ⊎-elim (at (high (p .0)) (low (p .1)) (low (p .2)) (inr refl) (inl refl) (inl refl))
+      (λ h₁. ⊎-elim (at (low (p .0)) (high (p .1)) (low (p .2)) (inl refl) (inr refl) (inl refl))
+      (λ h₂. ⊎-elim (at (high (p .0)) (high (p .1)) (low (p .2)) (inr refl) (inr refl) (inl refl))
+      (λ h₃. ⊎-elim (at (low (p .0)) (low (p .1)) (high (p .2)) (inl refl) (inl refl) (inr refl))
+      (λ h₄. ⊎-elim (at (high (p .0)) (low (p .1)) (high (p .2)) (inr refl) (inl refl) (inr refl))
+      (λ h₅. ⊎-elim (at (low (p .0)) (high (p .1)) (high (p .2)) (inl refl) (inr refl) (inr refl))
+      (at (high (p .0)) (high (p .1)) (high (p .2)) (inr refl) (inr refl) (inr refl))
+      (or-cases (test (low (p .0)) (high (p .1)) (high (p .2))) _ h₅))
+      (or-cases (test (high (p .0)) (low (p .1)) (high (p .2))) _ h₄))
+      (or-cases (test (low (p .0)) (low (p .1)) (high (p .2))) _ h₃))
+      (or-cases (test (high (p .0)) (high (p .1)) (low (p .2))) _ h₂))
+      (or-cases (test (low (p .0)) (high (p .1)) (low (p .2))) _ h₁))
+      (or-cases (test (high (p .0)) (low (p .1)) (low (p .2))) _ h)
+    where
+      at : (x y z : ℕ) → Beside (p .0) x → Beside (p .1) y → Beside (p .2) z → test x y z ≡ true → Found
+      at x y z bx by bz e = ((x, y, z), at-corner p (x, y, z) bx by bz, e)
+
+  moved-to : {x y z i j k : ℕ} → x ≡ i → y ≡ j → z ≡ k → test x y z ≡ true → test i j k ≡ true
+  moved-to {x} {y} {z} {i} {j} ex ey ez h = sym (ap (λ q. test q y z) ex ∙ ap (λ q. test i q z) ey ∙ ap (test i j) ez) ∙ h
+
+  -- a corner of which the test holds, where it does not hold of the first
+  other-found : test (low (p .0)) (low (p .1)) (low (p .2)) ≡ false → (x y z : ℕ) → Beside (p .0) x → Beside (p .1) y → Beside (p .2) z → test x y z ≡ true → other ≡ true
+  other-found none x y z (inl ex) (inl ey) (inl ez) h = let e = moved-to ex ey ez h in absurd (both-ways _ none e)
+  other-found none x y z (inr ex) (inl ey) (inl ez) h = let e = moved-to ex ey ez h in grind arith
+  other-found none x y z (inl ex) (inr ey) (inl ez) h = let e = moved-to ex ey ez h in grind arith
+  other-found none x y z (inr ex) (inr ey) (inl ez) h = let e = moved-to ex ey ez h in grind arith
+  other-found none x y z (inl ex) (inl ey) (inr ez) h = let e = moved-to ex ey ez h in grind arith
+  other-found none x y z (inr ex) (inl ey) (inr ez) h = let e = moved-to ex ey ez h in grind arith
+  other-found none x y z (inl ex) (inr ey) (inr ez) h = let e = moved-to ex ey ez h in grind arith
+  other-found none x y z (inr ex) (inr ey) (inr ez) h = let e = moved-to ex ey ez h in grind arith
 
 module _ (s : Sizes) (m : Place → Bool) (p : Place) where
   abbrev unlike : ℕ → ℕ → ℕ → Bool
@@ -118,7 +122,7 @@ module _ (s : Sizes) (m : Place → Bool) (p : Place) where
     -- from the first corner to one that differs, along one axis after the other
     face-from-mixed : mixed-corners m p ≡ true → FacePlace s m p
     face-from-mixed h =
-        let found = some-of unlike p h in
+        let found = found-other unlike p h in
         let c = found .0 in
         let a = low-corner p in
         let b = moved first a (c .0) in
@@ -143,10 +147,11 @@ module _ (s : Sizes) (m : Place → Bool) (p : Place) where
 
   mixed-from-face : FacePlace s m p → mixed-corners m p ≡ true
   mixed-from-face f =
-      let first-alike = differ-self (m (low-corner p)) in
+      let at-cell : (c : Place) → Corner p c → differ (m (low-corner p)) (m c) ≡ true → mixed-corners m p ≡ true =
+      λ c corner. other-found unlike p (differ-self (m (low-corner p))) (c .0) (c .1) (c .2) (corner first) (corner second) (corner third) in
       ⊎-elim
-      (λ d. of-some unlike p (f .here) (λ o. both-beside f o .0) first-alike (differ-sym (m (low-corner p)) (m (f .here)) ∙ d))
-      (λ d. of-some unlike p (f .next) (λ o. both-beside f o .1) first-alike d)
+      (λ d. at-cell (f .here) (λ o. both-beside f o .0) (differ-sym (m (low-corner p)) (m (f .here)) ∙ d))
+      (λ d. at-cell (f .next) (λ o. both-beside f o .1) d)
       (differ-via (m (f .here)) (m (low-corner p)) (m (f .next)) (differ-from-one (m (f .here)) (m (f .next)) (f .one-marked)))
 
 -- a place of the extent is one of the whole half-grid

@@ -3,12 +3,12 @@ use Prim.Native.Nat.{ℕ, zero, suc, _+_, _<_}
 use native.Mathlib.Omega.{arith}
 use native.Mathlib.Numerals.{add-one}
 use mathlib.Core.Path.{_≡_, refl, sym, ap, subst, _∙_}
-use mathlib.Core.Bool.{Bool, true, false}
+use mathlib.Core.Bool.{Bool, true}
 use mathlib.Core.Logic.{_⊎_, ⊎-elim}
 use Rattle.std.proofs.shelf.Tests.{both-ways}
 use Rattle.grid.specs.declared.sizes.Sizes.{Sizes}
 use Rattle.grid.specs.Geometry.{Place, inside}
-use Rattle.pictures.specs.Faces.{Axis, first, second, third, along, midway, differ, FacePlace, doubled}
+use Rattle.pictures.specs.Faces.{Axis, first, second, third, along, midway, differ, FacePlace}
 use Rattle.pictures.specs.Theorems.{Both-kinds-have-a-face}
 use Rattle.pictures.proofs.Differing.{one-from-differ, differ-self, differ-sym, differ-via}
 use Rattle.pictures.proofs.Axes.{size-on, inside-on, inside-from-axes, midway-inside, moved, moved-on, moved-off, moved-nowhere, moved-keeps}

@@ -2,16 +2,17 @@
 use Prim.Native.Nat.{ℕ, _<_, _≤_}
 use native.Mathlib.Omega.{arith}
 use mathlib.Core.Path.{_≡_, refl, sym, ap, subst, _∙_}
-use mathlib.Core.Bool.{Bool, true, false, not, _&&_}
+use mathlib.Core.Bool.{Bool, true, false}
 use Rattle.std.specs.Orderings.{Decides}
-use Rattle.std.proofs.shelf.Tests.{false≢true, both-ways, and-parts, and-from, not-true, not-from-false}
+use Rattle.std.proofs.shelf.Tests.{false≢true, both-ways}
 use Rattle.std.proofs.shelf.Ways.{decides-like}
 use Rattle.grid.specs.declared.sizes.Sizes.{Sizes}
 use Rattle.grid.specs.Geometry.{Place, IsGrid, cell-count, inside, place-of, cell-number}
 use Rattle.grid.proofs.Places.{place-inside, number-inside, place-back}
 use Rattle.pictures.specs.Numbered.{marks-by-number}
 use Rattle.pictures.specs.Negatives.{negative-marks}
-use Rattle.pictures.specs.Kinds.{SomeMarked, SomeUnmarked, BothKinds}
+use Rattle.pictures.specs.Kinds.{SomeMarked, BothKinds}
+use Rattle.pictures.proofs.Turning.{turned-cell, turned-back}
 
 module _ (extent : Sizes) (grid : IsGrid extent) (marks : Place → Bool) (s : Sizes) (same : s ≡ extent) where
   pub found : (k : ℕ) (at : Place) → k < cell-count s → at ≡ place-of s k → true ≡ marks at → Decides true (SomeMarked extent marks)
@@ -31,10 +32,4 @@ module _ (extent : Sizes) (grid : IsGrid extent) (marks : Place → Bool) (s : S
 
 -- a marked cell of the negative is an unmarked one of the picture
 pub both-kinds : (s : Sizes) (marks : Place → Bool) (r : Bool) → SomeMarked s marks → Decides r (SomeMarked s (negative-marks s marks)) → Decides r (BothKinds s marks)
-both-kinds s marks r marked = decides-like r (λ some. (marked, unmarked some)) (λ kinds. in-negative (kinds .1))
-  where
-    unmarked : SomeMarked s (negative-marks s marks) → SomeUnmarked s marks
-    unmarked some = record { place = some .place; in-grid = some .in-grid; of-kind = not-true (marks (some .place)) (and-parts (inside s (some .place)) _ (some .of-kind) .1) }
-
-    in-negative : SomeUnmarked s marks → SomeMarked s (negative-marks s marks)
-    in-negative some = record { place = some .place; in-grid = some .in-grid; of-kind = and-from (inside s (some .place)) _ (some .in-grid) (not-from-false (marks (some .place)) (some .of-kind)) }
+both-kinds s marks r marked = decides-like r (λ some. (marked, turned-back s marks false some)) (λ kinds. turned-cell s marks false (kinds .1))

@@ -1,7 +1,7 @@
 -- A grey picture that was made marks exactly the cells whose byte reaches the threshold.
 use Prim.Native.Nat.{ℕ, _<_}
 use mathlib.Core.Path.{_≡_, sym, ap, fun-ext, _∙_, subst}
-use mathlib.Core.Bool.{Bool, true, false, _&&_}
+use mathlib.Core.Bool.{_&&_}
 use mathlib.Core.List.{List}
 use denote.Ref.{now}
 use lib.Dec.{leb, eqb}
@@ -15,7 +15,7 @@ use Rattle.grid.specs.Doors.{sizes-door}
 use Rattle.grid.proofs.Doors.{passed-yes, passed-rest}
 use Rattle.grid.proofs.Places.{number-inside}
 use Rattle.pictures.specs.Doors.{grey-door}
-use Rattle.pictures.specs.Greys.{IsGrey, grey-extent, grey-marks, byte-reaches}
+use Rattle.pictures.specs.Greys.{IsGrey, byte-reaches}
 use Rattle.pictures.specs.declared.grey.Grey.{Grey}
 use Rattle.pictures.proofs.Differing.{and-same}
 

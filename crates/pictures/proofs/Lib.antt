@@ -1,5 +1,6 @@
 pub mod Axes
 pub mod Differing
+pub mod Turning
 pub mod Corners
 pub mod SameFaces
 pub mod Crossings

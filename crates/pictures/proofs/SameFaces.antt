@@ -1,13 +1,14 @@
 -- A picture and its negative have the same face places.
 use mathlib.Core.Path.{_≡_, sym, ap, fun-ext, _∙_}
-use mathlib.Core.Bool.{Bool, true, not, _&&_}
+use mathlib.Core.Bool.{Bool, not}
 use Rattle.std.proofs.shelf.Ways.{same-from-decides, decides-like}
 use Rattle.grid.specs.declared.sizes.Sizes.{Sizes}
-use Rattle.grid.specs.Geometry.{Place, inside}
+use Rattle.grid.specs.Geometry.{Place}
 use Rattle.pictures.specs.Faces.{FacePlace, half-marks}
 use Rattle.pictures.specs.Negatives.{negative-marks}
 use Rattle.pictures.specs.Theorems.{Negative-has-same-faces}
 use Rattle.pictures.proofs.Differing.{not-injective}
+use Rattle.pictures.proofs.Turning.{turned}
 use Rattle.pictures.proofs.Corners.{half-marks-faces}
 
 -- other marks that also differ at the two cells of the face
@@ -27,19 +28,16 @@ other-marks s marks others p f one =
     }
 
 module _ (s : Sizes) (marks : Place → Bool) where
-  turned : (p : Place) → inside s p ≡ true → negative-marks s marks p ≡ not (marks p)
-  turned p h = ap (λ b. b && not (marks p)) h
-
   to-negative : (p : Place) → FacePlace s marks p → FacePlace s (negative-marks s marks) p
   to-negative p f =
       other-marks s marks (negative-marks s marks) p f
-      (turned (f .here) (f .here-in-grid) ∙ ap not (f .one-marked) ∙ sym (ap not (turned (f .next) (f .next-in-grid))))
+      (turned s marks (f .here) (f .here-in-grid) ∙ ap not (f .one-marked) ∙ sym (ap not (turned s marks (f .next) (f .next-in-grid))))
 
   from-negative : (p : Place) → FacePlace s (negative-marks s marks) p → FacePlace s marks p
   from-negative p f =
       other-marks s (negative-marks s marks) marks p f
       (not-injective (marks (f .here)) (not (marks (f .next)))
-      (sym (turned (f .here) (f .here-in-grid)) ∙ f .one-marked ∙ ap not (turned (f .next) (f .next-in-grid))))
+      (sym (turned s marks (f .here) (f .here-in-grid)) ∙ f .one-marked ∙ ap not (turned s marks (f .next) (f .next-in-grid))))
 
 pub negative-has-same-faces : Negative-has-same-faces
 negative-has-same-faces s grid marks =

@@ -63,11 +63,15 @@ abbrev pub differ : Bool → Bool → Bool
 differ true b = not b
 differ false b = b
 
+-- whether the test holds of a corner other than the first
+abbrev pub other-corner : (ℕ → ℕ → ℕ → Bool) → ℕ → ℕ → ℕ → ℕ → ℕ → ℕ → Bool
+other-corner test x0 x1 y0 y1 z0 z1 = test x1 y0 z0 || (test x0 y1 z0 || (test x1 y1 z0 || (test x0 y0 z1 || (test x1 y0 z1 || (test x0 y1 z1 || test x1 y1 z1)))))
+
 -- whether some corner of the place is unlike the first
 abbrev pub mixed-corners : (Place → Bool) → Place → Bool
 mixed-corners marks p =
-    let unlike : ℕ → ℕ → ℕ → Bool = λ x y z. differ (marks (low (p .0), low (p .1), low (p .2))) (marks (x, y, z)) in
-    unlike (high (p .0)) (low (p .1)) (low (p .2)) || (unlike (low (p .0)) (high (p .1)) (low (p .2)) || (unlike (high (p .0)) (high (p .1)) (low (p .2)) || (unlike (low (p .0)) (low (p .1)) (high (p .2)) || (unlike (high (p .0)) (low (p .1)) (high (p .2)) || (unlike (low (p .0)) (high (p .1)) (high (p .2)) || unlike (high (p .0)) (high (p .1)) (high (p .2)))))))
+    other-corner (λ x y z. differ (marks (low (p .0), low (p .1), low (p .2))) (marks (x, y, z)))
+    (low (p .0)) (high (p .0)) (low (p .1)) (high (p .1)) (low (p .2)) (high (p .2))
 
 -- what a half-grid answers for whatever picture lies below it; one that would be no grid is read as a single place
 abbrev pub half-extent : Sizes → Sizes

@@ -16,6 +16,10 @@ pub record SameFaces (s : Sizes) (marks : Place → Bool) : Type 0 where
 abbrev pub Negative-has-same-faces : Type 0
 Negative-has-same-faces = (s : Sizes) → IsGrid s → (marks : Place → Bool) → SameFaces s marks
 
+-- and the negative has both kinds of cell exactly where the picture has
+abbrev pub Negative-has-same-kinds : Type 0
+Negative-has-same-kinds = (s : Sizes) (marks : Place → Bool) → BothKinds s (negative-marks s marks) ↔ BothKinds s marks
+
 -- where there are marked cells and unmarked ones, some place of the half-grid is a face place
 abbrev pub Both-kinds-have-a-face : Type 0
 Both-kinds-have-a-face = (s : Sizes) (marks : Place → Bool) → BothKinds s marks → (place : Place) × FacePlace s marks place

@@ -1,4 +1,3 @@
-ghost use mathlib.Core.Path.{_≡_};
 ghost use lib.ListN.{length};
 ghost use Rattle.grid.specs.Doors.{Admits};
 ghost use Rattle.pictures.specs.Doors.{grey-door};

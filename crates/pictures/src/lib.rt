@@ -21,3 +21,4 @@ pub use picture::Picture;
 pub use theorems::both_kinds_have_a_face;
 pub use theorems::cells_lie_off_the_faces;
 pub use theorems::negative_has_same_faces;
+pub use theorems::negative_has_same_kinds;

@@ -1,7 +1,6 @@
 ghost use mathlib.Core.Path.{_≡_};
 ghost use mathlib.Core.Bool.{_&&_, not};
 ghost use denote.Ref.{now};
-ghost use Rattle.grid.specs.Geometry.{inside};
 ghost use Rattle.pictures.specs.Laws.{lawful-within};
 ghost use Rattle.pictures.specs.Negatives.{MarksTheRest, negative-marks};
 use crate::picture::Picture;

@@ -1,8 +1,13 @@
-ghost use Rattle.pictures.specs.Theorems.{Negative-has-same-faces, Both-kinds-have-a-face, Cells-lie-off-the-faces};
+ghost use Rattle.pictures.specs.Theorems.{Negative-has-same-faces, Negative-has-same-kinds, Both-kinds-have-a-face, Cells-lie-off-the-faces};
 
 /// A picture and its negative have the same face places.
 pub fn negative_has_same_faces()
     ensures { λ _. ⌜ Negative-has-same-faces ⌝ }
+{}
+
+/// The negative has marked and unmarked cells exactly where the picture has both.
+pub fn negative_has_same_kinds()
+    ensures { λ _. ⌜ Negative-has-same-kinds ⌝ }
 {}
 
 /// A picture with marked and unmarked cells has a face place.

@@ -1,5 +1,4 @@
-use mathlib.Core.Path.{sym, _∙_, subst}
-use mathlib.Core.Bool.{true}
+use mathlib.Core.Path.{subst}
 use Rattle.std.specs.Orderings.{Decides}
 use Rattle.pictures.specs.Kinds.{SomeMarked}
 use Rattle.pictures.specs.Negatives.{negative-marks}

@@ -1,6 +1,5 @@
 use native.Mathlib.Omega.{arith}
-use mathlib.Core.Bool.{true}
-use mathlib.Core.Path.{_≡_, refl, sym, ap, subst, _∙_}
+use mathlib.Core.Path.{refl, sym, ap, subst, _∙_}
 use Prim.Native.Nat.{_≤_}
 use Rattle.grid.specs.Geometry.{SizesFit, cell-count}
 use Rattle.grid.proofs.Places.{cell-count-small}
