@@ -2,12 +2,15 @@
 //! and the refusals that every call of the library answers with.
 mod cell;
 mod refusal;
+mod row;
 mod sizes;
 mod theorems;
 
 pub use cell::Cell;
 pub use refusal::Refusal;
+pub use row::Row;
 pub use sizes::MAX_CELLS;
 pub use sizes::MAX_SIZE;
 pub use sizes::Sizes;
 pub use theorems::places_invert;
+pub use theorems::rows_part;
