@@ -1,3 +1,3 @@
 pub mod Ranges
 pub mod Laws
-pub mod Costs
+pub mod Formulas

@@ -1,8 +1,8 @@
 ghost use mathlib.Core.Path.{_≡_};
 ghost use Prim.Native.Nat.{_<_, _≤_, _^_};
 ghost use Rattle.std.specs.Results.{Cases};
-ghost use Rattle.rules.specs.Ranges.{Allowed, Crosses};
-ghost use Rattle.rules.specs.Costs.{spacing, widest, Holds, block, block-ceil};
+ghost use Rattle.rules.specs.Ranges.{IsSpacing, Crosses};
+ghost use Rattle.rules.specs.Formulas.{spacing, widest, HasSpacings, block, block-ceiling};
 ghost use Rattle.grid.specs.declared.refusal.Refusal.the-variants.{SpacingRange};
 use crate::rule::Rule;
 use crate::spacings::Spacings;
@@ -16,7 +16,7 @@ pub struct Block {
 
 impl Block {
     pub fn new(first: u32, second: u32, third: u32) -> Result<Block, Refusal>
-        ensures { λ r. ⌜ Cases r (λ b. Holds (b .spacings) first second third) (λ e. (e ≡ SpacingRange) × (Allowed first × Allowed second × Allowed third → ⊥)) ⌝ }
+        ensures { λ r. ⌜ Cases r (λ b. HasSpacings (b .spacings) first second third) (λ e. (e ≡ SpacingRange) × (IsSpacing first × IsSpacing second × IsSpacing third → ⊥)) ⌝ }
     {
         let spacings = Spacings::new(first, second, third)?;
         Ok(Block { spacings })
@@ -32,7 +32,7 @@ impl Block {
 
 /// The lowest place at which a point at `j` that carries `h` is no farther than one at `i` that carries `g`.
 fn block_crossing(s: u32, i: u32, g: u64, j: u32, h: u64) -> u32
-    requires allowed { ⌜ Allowed s ⌝ }
+    requires allowed { ⌜ IsSpacing s ⌝ }
     requires places { ⌜ (i < j) × (j < 1023) ⌝ }
     requires carried { ⌜ (g ≤ 2 ^ 62) × (h ≤ 2 ^ 62) ⌝ }
     ensures { λ r. ⌜ Crosses (λ t. block s i t g) (λ t. block s j t h) r ⌝ }
@@ -50,13 +50,12 @@ fn block_crossing(s: u32, i: u32, g: u64, j: u32, h: u64) -> u32
 }
 
 pub impl Rule for Block as BlockRule {
-    ghost cost = { λ r d i t g. block (spacing (r .spacings) d) i t g };
+    ghost near = { λ r d i t g. block (spacing (r .spacings) d) i t g };
 
-    ghost ceil = { λ r d. block-ceil (r .spacings) d };
+    ghost ceiling = { λ r d. block-ceiling (r .spacings) d };
 
     fn ceiling(&self, axis: u8) -> Option<u64> {
         match axis {
-            0 => Some(0),
             1 => Some(self.widest(1)),
             2 => Some(self.widest(1) + self.widest(2)),
             3 => Some(self.widest(1) + self.widest(2) + self.widest(3)),

@@ -1,8 +1,8 @@
 ghost use mathlib.Core.Path.{_≡_};
 ghost use Prim.Native.Nat.{_<_, _≤_, _^_, _*_};
 ghost use Rattle.std.specs.Results.{Cases};
-ghost use Rattle.rules.specs.Ranges.{Allowed, Crosses};
-ghost use Rattle.rules.specs.Costs.{spacing, widest, Holds, square, square-ceil};
+ghost use Rattle.rules.specs.Ranges.{IsSpacing, Crosses};
+ghost use Rattle.rules.specs.Formulas.{spacing, widest, HasSpacings, square, square-ceiling};
 ghost use Rattle.grid.specs.declared.refusal.Refusal.the-variants.{SpacingRange};
 use crate::rule::Rule;
 use crate::spacings::Spacings;
@@ -16,7 +16,7 @@ pub struct Square {
 
 impl Square {
     pub fn new(first: u32, second: u32, third: u32) -> Result<Square, Refusal>
-        ensures { λ r. ⌜ Cases r (λ q. Holds (q .spacings) first second third) (λ e. (e ≡ SpacingRange) × (Allowed first × Allowed second × Allowed third → ⊥)) ⌝ }
+        ensures { λ r. ⌜ Cases r (λ q. HasSpacings (q .spacings) first second third) (λ e. (e ≡ SpacingRange) × (IsSpacing first × IsSpacing second × IsSpacing third → ⊥)) ⌝ }
     {
         let spacings = Spacings::new(first, second, third)?;
         Ok(Square { spacings })
@@ -33,7 +33,7 @@ impl Square {
 
 /// The lowest place at which a point at `j` that carries `h` is no farther than one at `i` that carries `g`.
 fn square_crossing(s: u32, i: u32, g: u64, j: u32, h: u64) -> u32
-    requires allowed { ⌜ Allowed s ⌝ }
+    requires allowed { ⌜ IsSpacing s ⌝ }
     requires places { ⌜ (i < j) × (j < 1023) ⌝ }
     requires carried { ⌜ h ≤ 2 ^ 62 ⌝ }
     ensures { λ r. ⌜ Crosses (λ t. square s i t g) (λ t. square s j t h) r ⌝ }
@@ -49,13 +49,12 @@ fn square_crossing(s: u32, i: u32, g: u64, j: u32, h: u64) -> u32
 }
 
 pub impl Rule for Square as SquareRule {
-    ghost cost = { λ r d i t g. square (spacing (r .spacings) d) i t g };
+    ghost near = { λ r d i t g. square (spacing (r .spacings) d) i t g };
 
-    ghost ceil = { λ r d. square-ceil (r .spacings) d };
+    ghost ceiling = { λ r d. square-ceiling (r .spacings) d };
 
     fn ceiling(&self, axis: u8) -> Option<u64> {
         match axis {
-            0 => Some(0),
             1 => Some(self.widest_squared(1)),
             2 => Some(self.widest_squared(1) + self.widest_squared(2)),
             3 => Some(self.widest_squared(1) + self.widest_squared(2) + self.widest_squared(3)),
