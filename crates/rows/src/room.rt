@@ -2,6 +2,7 @@ use crate::candidate::Candidate;
 use crate::candidate::UNUSED;
 
 /// Room for the candidates of the longest row, 16 KiB: made once and lent to one row after another.
+#[derive(Drop)]
 pub struct Room {
     pub(crate) candidates: [Candidate; 1023],
 }
