@@ -1,2 +1,5 @@
 pub mod Places
 pub mod Doors
+pub mod RowCells
+pub mod RowDoors
+pub mod Rows

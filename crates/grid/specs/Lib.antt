@@ -5,3 +5,6 @@ pub mod Refusals
 pub mod Doors
 pub mod Distance
 pub mod Cells
+pub mod RowGeometry
+pub mod Rows
+pub mod RowDoors

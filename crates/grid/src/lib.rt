@@ -2,6 +2,7 @@
 //! and the refusals that every call of the library answers with.
 mod cell;
 mod refusal;
+mod row;
 mod sizes;
 mod theorems;
 
@@ -11,9 +12,11 @@ pub use cell::CellPartialEq;
 pub use refusal::Refusal;
 pub use refusal::RefusalDebug;
 pub use refusal::RefusalPartialEq;
+pub use row::Row;
 pub use sizes::MAX_CELLS;
 pub use sizes::MAX_SIZE;
 pub use sizes::Sizes;
 pub use sizes::SizesDebug;
 pub use sizes::SizesPartialEq;
 pub use theorems::places_invert;
+pub use theorems::rows_part;

@@ -1,0 +1,3 @@
+pub mod Envelope
+pub mod Rewrites
+pub mod Steps
