@@ -3,3 +3,4 @@ mod NameLines
 mod ValueLines
 mod Roots
 mod Printing
+mod Reporting

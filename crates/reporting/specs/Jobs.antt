@@ -2,13 +2,16 @@
 use mathlib.Core.Path.{_≡_}
 use mathlib.Core.Logic.{_≢_}
 use mathlib.Core.List.{List, [], _∷_, _++_, map}
-use Prim.Native.Nat.{ℕ, _≤_}
+use Prim.Native.Nat.{ℕ, _≤_, _<_}
 use lib.Chars.{codes}
+use lib.ListN.{length}
 use Rattle.numerals.specs.Numerals.{numeral}
 use Rattle.reporting.specs.Lines.{line-of}
 use Rattle.reporting.specs.declared.columns.Column.{Column}
 use Rattle.reporting.specs.declared.columns.Column.the-variants.{Rule, Sx, Sy, Sz}
 use Rattle.reporting.specs.declared.columns.Order.{Order}
+use Rattle.reporting.specs.declared.faults.JobFault.{JobFault}
+use Rattle.reporting.specs.declared.faults.JobFault.the-variants as fault
 use Rattle.reporting.specs.declared.settings.RuleName.{RuleName}
 use Rattle.reporting.specs.declared.settings.RuleName.the-variants.{Square, Block, Chess}
 use Rattle.reporting.specs.declared.settings.Settings.{Settings}
@@ -57,10 +60,7 @@ ValueFits s Sz = (1 ≤ s .sz) × (s .sz ≤ 10000)
 
 -- the text is the line of the values in this order, and the rest
 pub record Values (text : List ℕ) (o : Order) (s : Settings) (rest : List ℕ) : Type 0 where
-  pub first-fits : ValueFits s (o .first)
-  pub second-fits : ValueFits s (o .second)
-  pub third-fits : ValueFits s (o .third)
-  pub fourth-fits : ValueFits s (o .fourth)
+  pub each-fits : (c : Column) → ValueFits s c
   pub whole : text ≡ line-of (map (value-text s) (columns o)) ++ rest
 
 -- the text is a word, the byte that ends it, and the rest
@@ -85,3 +85,26 @@ pub record ReadsSetting (before : Settings) (c : Column) (text : List ℕ) (end 
 
 abbrev pub NoSetting : List ℕ → Column → ℕ → Type 0
 NoSetting text c end = (s : Settings) → ValueFits s c → NoWord text (value-text s c) end
+
+-- the input is a job text: at most 8,192 bytes, a line of names, a line of values, and then the stack
+pub record IsJob (input : List ℕ) (s : Settings) (stack : List ℕ) : Type 0 where
+  pub short : length input ≤ 8192
+  pub order : Order
+  pub second-line : List ℕ
+  pub names : Names input order second-line
+  pub values : Values second-line order s stack
+
+-- the first line is right, the second, which starts where the first ends, is not
+pub record NoValues (input : List ℕ) (start : ℕ) : Type 0 where
+  pub short : length input ≤ 8192
+  pub order : Order
+  pub second-line : List ℕ
+  pub names : Names input order second-line
+  pub no-values : (s : Settings) (rest : List ℕ) → Values second-line order s rest → ⊥
+  pub place : start ≡ length (line-of (map column-name (columns order)))
+
+-- the first question about the two lines that is answered no
+abbrev pub FaultyJob : List ℕ → JobFault → Type 0
+FaultyJob input fault.TooLong = 8192 < length input
+FaultyJob input fault.Names = (length input ≤ 8192) × ((order : Order) (rest : List ℕ) → Names input order rest → ⊥)
+FaultyJob input (fault.Values start) = NoValues input start

@@ -2,3 +2,4 @@ pub mod Lines
 pub mod Jobs
 pub mod Faults
 pub mod Texts
+pub mod Reports

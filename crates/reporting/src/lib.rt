@@ -2,12 +2,18 @@
 //! Everything that the program `report` prints is made here, as a function on bytes.
 mod columns;
 mod faults;
+mod field;
+mod job;
 mod settings;
 mod text;
 
 pub use faults::JobFault;
 pub use faults::Part;
 pub use faults::ReportError;
+pub use faults::ReportErrorFromAlloc;
 pub use faults::ReportFault;
+pub use field::MOST_CELLS;
+pub use field::report;
+pub use job::MOST_BYTES;
 pub use settings::RuleName;
 pub use text::fault_text;

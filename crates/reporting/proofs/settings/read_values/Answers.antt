@@ -1,6 +1,8 @@
 use denote.Ref.{now}
+use mathlib.Core.Path.{refl}
+use Rattle.reporting.specs.declared.settings.RuleName.the-variants.{Square}
 use Rattle.reporting.proofs.Words.{option-weaker}
-use Rattle.reporting.proofs.ValueLines.{no-first-value, no-second-value, no-third-value, no-fourth-value, values-from-readings}
+use Rattle.reporting.proofs.ValueLines.{no-first-value, no-second-value, no-third-value, no-fourth-value, values-from-readings, blank-fits}
 use Rattle.reporting.proofs.settings.read_values.Needs as need
 
 pub returns-in-Break-one : need.returns-in-Break-one
@@ -23,4 +25,4 @@ returns c =
     let three = c .in-Continue-three .ensures tt in
     option-weaker (c .read-setting-4 .result) (c .read-setting-4 .ensures)
     (λ none s rest values. no-fourth-value _ _ s rest values _ _ (one .whole) _ _ (two .whole) _ _ (three .whole) none)
-    (λ p four. values-from-readings _ _ _ _ (now (p .1)) _ _ _ _ _ (p .0) (c .pre) one two three four)
+    (λ p four. values-from-readings _ _ _ _ (now (p .1)) _ _ _ _ _ (p .0) (c .pre) (blank-fits record { rule = Square; sx = 1; sy = 1; sz = 1 } refl refl refl) one two three four)
