@@ -1,0 +1,3 @@
+pub mod Distances
+pub mod Painting
+pub mod StepUp

@@ -1,0 +1,2 @@
+pub mod Painting
+pub mod Steps

@@ -1,0 +1,7 @@
+//! What holds of whole fields, for every rule that shows the laws: painted records are right, each worked row keeps
+//! every record right, and the finished values depend on nothing but the rule, the sizes and the marks.
+mod theorems;
+
+pub use theorems::painted_holds;
+pub use theorems::step_up;
+pub use theorems::value_below_ceiling;
