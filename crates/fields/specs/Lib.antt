@@ -1,2 +1,5 @@
 pub mod Painting
 pub mod Steps
+pub mod Passes
+pub mod Least
+pub mod Agreement

@@ -1,5 +1,8 @@
 ghost use Rattle.fields.specs.Painting.{Painted-holds};
 ghost use Rattle.fields.specs.Steps.{Step-up, Value-below-ceiling};
+ghost use Rattle.fields.specs.Passes.{Pass-goes};
+ghost use Rattle.fields.specs.Least.{Least-is-least, Value-is-least};
+ghost use Rattle.fields.specs.Agreement.{Point-is-nearest, Records-agree, Fields-agree, Mark-reaches-all};
 
 /// Painted records are right, at level 0.
 pub fn painted_holds()
@@ -11,7 +14,42 @@ pub fn step_up()
     ensures { λ _. ⌜ Step-up ⌝ }
 {}
 
+/// Row after row, a pass over an axis brings all cells to the next level.
+pub fn pass_goes()
+    ensures { λ _. ⌜ Pass-goes ⌝ }
+{}
+
 /// A right record's value is at most the ceiling of its level.
 pub fn value_below_ceiling()
     ensures { λ _. ⌜ Value-below-ceiling ⌝ }
+{}
+
+/// A right record's point is a nearest marked cell of its slab, at the record's value.
+pub fn point_is_nearest()
+    ensures { λ _. ⌜ Point-is-nearest ⌝ }
+{}
+
+/// The least distance of a cell is that of a marked cell, no marked cell is nearer, and it is none only where no cell is marked.
+pub fn least_is_least()
+    ensures { λ _. ⌜ Least-is-least ⌝ }
+{}
+
+/// At level 3 a right record's value is the least distance to a marked cell, and it has a point exactly where there is a mark.
+pub fn value_is_least()
+    ensures { λ _. ⌜ Value-is-least ⌝ }
+{}
+
+/// Two right records of a cell at the same level have the same value, and both have a point or neither has.
+pub fn records_agree()
+    ensures { λ _. ⌜ Records-agree ⌝ }
+{}
+
+/// Two finished fields of the same rule, sizes and marks have the same value at every cell, however their rows were worked.
+pub fn fields_agree()
+    ensures { λ _. ⌜ Fields-agree ⌝ }
+{}
+
+/// Where one cell is marked, every cell of a finished field has a point.
+pub fn mark_reaches_all()
+    ensures { λ _. ⌜ Mark-reaches-all ⌝ }
 {}
