@@ -1,7 +1,6 @@
 -- Right records of a cell agree, and so do finished fields.
-use mathlib.Core.Path.{_≡_, refl, sym, _∙_, ap, subst}
+use mathlib.Core.Path.{_≡_, refl, sym, _∙_, subst}
 use mathlib.Core.Bool.{true}
-use mathlib.Core.List.{List}
 use Prim.Native.Nat.{ℕ, _<_}
 use native.Mathlib.Omega.{arith}
 use Rattle.std.specs.declared.option.Option.{Option}
@@ -11,8 +10,8 @@ use Rattle.grid.specs.declared.sizes.Sizes.{Sizes}
 use Rattle.grid.specs.declared.cell.Cell.{Cell}
 use Rattle.grid.specs.Geometry.{cell-count}
 use Rattle.grid.specs.Distance.{Near}
-use Rattle.grid.specs.Cells.{Marks, Marked, Nearest, Answers, Holds, cell-at}
-use Rattle.fields.specs.Agreement.{Agree, SameMarks, Point-is-nearest, Records-agree, Fields-agree, Mark-reaches-all}
+use Rattle.grid.specs.Cells.{Marks, Marked, Answers, Holds, cell-at}
+use Rattle.fields.specs.Agreement.{SameMarks, Point-is-nearest, Records-agree, Fields-agree, Mark-reaches-all}
 use Rattle.fields.proofs.Least.{whole-grid}
 
 pub point-is-nearest : Point-is-nearest

@@ -1,5 +1,5 @@
 -- The distance at a level: on what it depends, and how far it goes.
-use mathlib.Core.Path.{_≡_, refl}
+use mathlib.Core.Path.{_≡_, refl, subst}
 use Prim.Native.Nat.{ℕ, zero, suc, _-_, _≤_, _<_}
 use native.Mathlib.Omega.{arith}
 use Rattle.std.specs.declared.option.Option.{Option}
@@ -7,13 +7,13 @@ use Rattle.std.specs.declared.option.Option.the-variants.{Some, None}
 use Rattle.grid.specs.declared.sizes.Sizes.{Sizes}
 use Rattle.grid.specs.Geometry.{IsGrid, cell-count, place-on}
 use Rattle.grid.specs.Distance.{Near, distance}
-use Rattle.grid.specs.Cells.{Answers}
-use Rattle.grid.specs.RowGeometry.{OnAxis}
+use Rattle.grid.specs.Cells.{Answers, cell-at}
+use Rattle.grid.specs.RowGeometry.{OnAxis, row-cell}
 use Rattle.grid.proofs.Places.{place-below}
-use Rattle.grid.proofs.RowCells.{axis-is-size}
+use Rattle.grid.proofs.RowCells.{row-in-grid, axis-is-size}
 use Rattle.rules.specs.Ranges.{Seen}
 use Rattle.rules.specs.Laws.{Bounded}
-use Rattle.fields.specs.Steps.{Value-below-ceiling}
+use Rattle.fields.specs.Steps.{Value-below-ceiling, Row-values-fit}
 
 -- it depends on the lower places of the cell only
 pub distance-same : (near : Near) (s : Sizes) (d a b p : ℕ) → ((e : ℕ) → 1 ≤ e → e ≤ d → place-on s e a ≡ place-on s e b)
@@ -49,3 +49,10 @@ value-below-ceiling ceiling near bounded s grid marks k hk c holds = go (c .poin
     go : (o : Option ℕ) (v : ℕ) → Answers near s marks (c .level) k o v → v ≤ ceiling (c .level)
     go None v a = omega (arith, a .0)
     go (Some p) v a = omega (arith, a .value, distance-bounded ceiling near bounded s grid (c .level) k p (holds .level-at-most-3) hk (a .point .in-grid))
+
+pub row-values-fit : Row-values-fit
+row-values-fit ceiling near bounded s marks d m row cells holds stands i hi =
+    let hk : row-cell s d m i < cell-count s = row-in-grid s (row .grid) d m i (row .axis) (row .number) hi in
+    subst (λ (l : ℕ). cell-at cells (row-cell s d m i) .value ≤ ceiling l) (stands i hi)
+    (value-below-ceiling ceiling near bounded s (row .grid) marks (row-cell s d m i) hk (cell-at cells (row-cell s d m i))
+    (holds .each (row-cell s d m i) hk))

@@ -1,5 +1,5 @@
 -- At level 3 the values are the least distances.
-use mathlib.Core.Path.{_≡_, refl, sym, _∙_, ap, subst}
+use mathlib.Core.Path.{_≡_, refl, subst}
 use mathlib.Core.Bool.{Bool, true, false, cond}
 use Prim.Native.Nat.{ℕ, zero, suc, min, _≤_, _<_}
 use native.Mathlib.Omega.{arith}
@@ -9,9 +9,9 @@ use Rattle.std.specs.declared.option.Option.the-variants.{Some, None}
 use Rattle.std.specs.Options.{isSome, valueOr}
 use Rattle.grid.specs.declared.sizes.Sizes.{Sizes}
 use Rattle.grid.specs.Geometry.{cell-count}
-use Rattle.grid.specs.Distance.{Near, distance}
+use Rattle.grid.specs.Distance.{distance}
 use Rattle.grid.specs.Cells.{Marks, Marked, Answers}
-use Rattle.fields.specs.Least.{lesser, least-over, least-distance, LeastBelow, IsLeast, Least-is-least, Value-is-least}
+use Rattle.fields.specs.Least.{lesser, least-over, least-distance, IsLeast, Least-is-least, Value-is-least}
 use Rattle.fields.proofs.Painting.{not-both}
 
 below-or-last : (q n : ℕ) → q < suc n → (P : Type 0) → (q < n → P) → (q ≡ n → P) → P

@@ -4,3 +4,4 @@ pub mod StepUp
 pub mod Passing
 pub mod Least
 pub mod Agreement
+pub mod Orders

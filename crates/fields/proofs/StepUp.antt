@@ -9,10 +9,10 @@ use Rattle.std.specs.declared.option.Option.{Option}
 use Rattle.std.specs.declared.option.Option.the-variants.{Some, None}
 use Rattle.grid.specs.declared.sizes.Sizes.{Sizes}
 use Rattle.grid.specs.declared.cell.Cell.{Cell}
-use Rattle.grid.specs.Geometry.{IsGrid, cell-count, axis-size, place-on, SameAbove}
+use Rattle.grid.specs.Geometry.{IsGrid, cell-count, axis-size, place-on}
 use Rattle.grid.specs.Distance.{Near, distance}
 use Rattle.grid.specs.Cells.{Marks, Marked, Nearest, Answers, Holds, AllHold, cell-at}
-use Rattle.grid.specs.RowGeometry.{OnAxis, HasRow, row-count, row-cell}
+use Rattle.grid.specs.RowGeometry.{OnAxis, row-count, row-cell}
 use Rattle.grid.specs.Rows.{Offers, Best, GridRowDone, records}
 use Rattle.grid.proofs.Places.{place-below}
 use Rattle.grid.proofs.RowCells.{row-in-grid, row-place, row-other, axis-is-size}

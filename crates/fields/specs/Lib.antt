@@ -3,3 +3,4 @@ pub mod Steps
 pub mod Passes
 pub mod Least
 pub mod Agreement
+pub mod Orders

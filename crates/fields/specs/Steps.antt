@@ -7,7 +7,7 @@ use Rattle.grid.specs.Geometry.{IsGrid, cell-count, axis-size}
 use Rattle.grid.specs.Distance.{Near}
 use Rattle.grid.specs.Cells.{Marks, Holds, AllHold}
 use Rattle.grid.specs.RowGeometry.{HasRow, row-cell}
-use Rattle.grid.specs.Rows.{GridRowDone, RowAt, records}
+use Rattle.grid.specs.Rows.{GridRowDone, RowAt, RowBelow, records}
 use Rattle.rules.specs.Laws.{Order, Bounded}
 
 -- every cell of the row m of the axis d stands at the level l
@@ -30,3 +30,10 @@ Step-up = (ceiling : ℕ → ℕ) (near : Near) → Order ceiling near → Bound
 abbrev pub Value-below-ceiling : Type 0
 Value-below-ceiling = (ceiling : ℕ → ℕ) (near : Near) → Bounded ceiling near → (s : Sizes) → IsGrid s
     → (marks : Marks) (k : ℕ) → k < cell-count s → (c : Cell) → Holds near s marks k c → c .value ≤ ceiling (c .level)
+
+-- so in a right field no value of a row is above what a point can carry to the row's axis
+abbrev pub Row-values-fit : Type 0
+Row-values-fit = (ceiling : ℕ → ℕ) (near : Near) → Bounded ceiling near
+    → (s : Sizes) (marks : Marks) (d m : ℕ) → HasRow s d m → (cells : List Cell)
+    → AllHold near s marks cells → GridRowAt s d m (d - 1) cells
+    → RowBelow (axis-size s d) (records cells (row-cell s d m)) (ceiling (d - 1))

@@ -1,6 +1,7 @@
 ghost use Rattle.fields.specs.Painting.{Painted-holds};
-ghost use Rattle.fields.specs.Steps.{Step-up, Value-below-ceiling};
+ghost use Rattle.fields.specs.Steps.{Step-up, Value-below-ceiling, Row-values-fit};
 ghost use Rattle.fields.specs.Passes.{Pass-goes};
+ghost use Rattle.fields.specs.Orders.{Rows-keep-right, Rows-finish};
 ghost use Rattle.fields.specs.Least.{Least-is-least, Value-is-least};
 ghost use Rattle.fields.specs.Agreement.{Point-is-nearest, Records-agree, Fields-agree, Mark-reaches-all};
 
@@ -22,6 +23,21 @@ pub fn pass_goes()
 /// A right record's value is at most the ceiling of its level.
 pub fn value_below_ceiling()
     ensures { λ _. ⌜ Value-below-ceiling ⌝ }
+{}
+
+/// In a right field no value of a row is above what a point can carry to the row's axis.
+pub fn row_values_fit()
+    ensures { λ _. ⌜ Row-values-fit ⌝ }
+{}
+
+/// Rows worked in whatever order, each from the level below its axis, leave every record right.
+pub fn rows_keep_right()
+    ensures { λ _. ⌜ Rows-keep-right ⌝ }
+{}
+
+/// From painted cells, whatever the order of the rows, the field is finished where all cells have come to level 3.
+pub fn rows_finish()
+    ensures { λ _. ⌜ Rows-finish ⌝ }
 {}
 
 /// A right record's point is a nearest marked cell of its slab, at the record's value.
