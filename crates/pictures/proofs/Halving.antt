@@ -31,6 +31,6 @@ module _ (s : Sizes) (small : fits-doubled s ≡ true) (few : cell-count (half-s
   answers-half-grid fit marks =
       let same = as-grid-keeps-grids (half-sizes s) (half-sizes-fit s fit small, few) in
       record {
-        sizes-doubled = same;
+        twice-less-one = same;
         marks-faces = λ at. decides-like (half-marks s marks at) (λ h. h .1) (λ f. (subst (λ n. inside n at ≡ true) (sym same) (f .in-half-grid), f)) (half-marks-faces s marks fit at);
       }

@@ -83,5 +83,5 @@ half-marks s marks p = inside (half-extent s) p && mixed-corners marks p
 -- what a half-grid answers is that of this picture: it has 2n - 1 places where the picture has n, and marks exactly
 -- the face places
 pub record AnswersHalfGrid (s : Sizes) (marks : Place → Bool) : Type 0 where
-  pub sizes-doubled : half-extent s ≡ half-sizes s
+  pub twice-less-one : half-extent s ≡ half-sizes s
   pub marks-faces : (place : Place) → Decides (half-marks s marks place) (FacePlace s marks place)
