@@ -81,7 +81,7 @@ next-faulty bytes rest first w h fault at opens p left place bad = record {
   left = λ some. left (omega (arith, p .count, some));
   sized = go (p .before) (p .whole);
   image = p .count;
-  byte = omega (arith, p .room, place);
+  byte = omega (arith, place, ap length (p .whole) ∙ length-append (images-of w h (p .before)) rest);
   faulty = bad;
 }
   where

@@ -8,7 +8,7 @@ use lib.ListN.{length, drop}
 use Rattle.std.specs.Results.{Cases}
 use Rattle.std.specs.declared.result.Result.{Result}
 use Rattle.std.specs.declared.result.Result.the-variants.{Ok, Err}
-use Rattle.std.proofs.shelf.Lists.{append-assoc, append-cancel-left, drop-at}
+use Rattle.std.proofs.shelf.Lists.{append-assoc, append-cancel-left, length-append, drop-at}
 use Rattle.grid.specs.declared.sizes.Sizes.{Sizes}
 use Rattle.grid.specs.Geometry.{IsGrid}
 use Rattle.numerals.specs.Numerals.{numeral, space}
@@ -94,6 +94,10 @@ same-made : (f g : StackFault) → f .cause ≡ g .cause → f .image ≡ g .ima
 same-made f g cause image byte =
     ap (λ c. made c (f .image) (f .byte)) cause ∙ ap (λ i. made (g .cause) i (f .byte)) image ∙ ap (made (g .cause) (g .image)) byte
 
+-- the images before and the rest are all bytes
+parts : (bytes : List ℕ) (f : StackFault) (F : FirstFaulty bytes f) → length bytes ≡ length (images-of (F .width) (F .height) (F .before)) + length (F .rest)
+parts bytes f F = ap length (F .whole) ∙ length-append (images-of (F .width) (F .height) (F .before)) (F .rest)
+
 -- with no image before, the fault is not one of the size
 unsized : (bytes : List ℕ) (f : StackFault) (F : FirstFaulty bytes f) → F .before ≡ [] → {A : Type 0} → f .cause ≡ OtherSize → A
 unsized bytes f F none is = absurd (⊎-elim (λ l. omega (arith, ap length none)) (λ ne. ne is) (F .sized))
@@ -103,7 +107,7 @@ module _ (bytes : List ℕ) (f g : StackFault) (F : FirstFaulty bytes f) (G : Fi
   same-at-one-image rest many p q =
       let m = subst (λ r. FaultyImage r (G .width) (G .height) (g .cause) (G .at)) (sym rest) (G .faulty) in
       let same = same-fault-of-image (F .rest) (F .width) (F .height) (G .width) (G .height) (f .cause) (g .cause) (F .at) (G .at) p q (F .faulty) m in
-      same-made f g (same .0) (F .image ∙ many ∙ sym (G .image)) (omega (arith, F .byte, G .byte, ap length rest, same .1))
+      same-made f g (same .0) (F .image ∙ many ∙ sym (G .image)) (omega (arith, F .byte, G .byte, ap length rest, same .1, parts bytes f F, parts bytes g G))
 
   -- the sizes of the images before agree, if both have some
   sizes-agree : (x y : List ℕ) (xs ys : List (List ℕ)) → F .before ≡ x ∷ xs → G .before ≡ y ∷ ys → (F .width ≡ G .width) × (F .height ≡ G .height)
@@ -163,7 +167,7 @@ no-fault bytes s form grid f (inl F) = no-faulty-image bytes s form f F
 no-fault bytes s form grid f (inr F) = F .large (subst IsGrid (sym (same-sizes bytes s form (F .sizes) (F .stack))) grid)
 
 fault-within : (bytes : List ℕ) (f : StackFault) → FaultyBytes bytes f → f .byte ≤ length bytes
-fault-within bytes f (inl F) = omega (arith, F .byte, fault-in-image (F .rest) (F .width) (F .height) (f .cause) (F .at) (F .faulty))
+fault-within bytes f (inl F) = omega (arith, F .byte, parts bytes f F, fault-in-image (F .rest) (F .width) (F .height) (f .cause) (F .at) (F .faulty))
 fault-within bytes f (inr F) = omega (arith, F .byte)
 
 -- what follows from a result that is a stack or a fault

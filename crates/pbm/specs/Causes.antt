@@ -1,5 +1,5 @@
 -- The numbers of the causes, and of a fault.
-use Prim.Native.Nat.{ℕ, _+_, min}
+use Prim.Native.Nat.{ℕ, _+_, _-_, _^_, min}
 use Rattle.pbm.specs.declared.faults.Cause.{Cause}
 use Rattle.pbm.specs.declared.faults.Cause.the-variants.{Magic, Number, Short, OtherSize, TooLarge}
 use Rattle.pbm.specs.declared.faults.StackFault.{StackFault}
@@ -14,6 +14,6 @@ cause-number TooLarge = 24
 abbrev pub fault-numbers : StackFault → ℕ × ℕ × ℕ
 fault-numbers f = (cause-number (f .cause), f .image, f .byte)
 
--- the same fault, its byte counted from a place that stands so many bytes before the stack
+-- the same fault, its byte counted from a place that stands so many bytes before the stack, as far as a number of 64 bits goes
 abbrev pub counted-from : ℕ → StackFault → StackFault
-counted-from start f = record { cause = f .cause; image = f .image; byte = min (f .byte + start) 18446744073709551615 }
+counted-from start f = record { cause = f .cause; image = f .image; byte = min (f .byte + start) (2 ^ 64 - 1) }

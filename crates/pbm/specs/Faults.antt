@@ -25,7 +25,8 @@ pub record Begins (text : List ℕ) (w h : ℕ) (rest : List ℕ) : Type 0 where
   pub full : length raster ≡ raster-bytes w h
   pub whole : text ≡ (header w h ++ raster) ++ rest
 
--- In what follows the text starts where an image should, and `at` is the place of a fault, counted from there.
+-- Next come the questions that an image is asked, in their order, each answered no. The text starts where the image
+-- should, and `at` is the byte of the fault, counted from there.
 
 -- do `P4` and a line feed stand there?
 pub record NoMagic (text : List ℕ) (at : ℕ) : Type 0 where
@@ -58,7 +59,7 @@ pub record Resized (text : List ℕ) (w h at : ℕ) : Type 0 where
   pub other : (width ≡ w) × (height ≡ h) → ⊥
   pub place : at ≡ 3
 
--- are all rows there? The fault stands where the input ends.
+-- are all rows there? The fault stands where the text ends.
 pub record CutShort (text : List ℕ) (w h at : ℕ) : Type 0 where
   pub rest : List ℕ
   pub opens : Opens text w h rest
@@ -95,7 +96,7 @@ pub record FirstFaulty (bytes : List ℕ) (fault : StackFault) : Type 0 where
   pub left : 0 < length before → 0 < length rest
   pub sized : (0 < length before) ⊎ (fault .cause ≡ OtherSize → ⊥)
   pub image : fault .image ≡ length before
-  pub byte : fault .byte + length rest ≡ length bytes + at
+  pub byte : fault .byte ≡ length (images-of width height before) + at
   pub faulty : FaultyImage rest width height (fault .cause) at
 
 -- every image is sound, and they are too many or have too many cells
@@ -107,5 +108,6 @@ pub record OverLimits (bytes : List ℕ) (fault : StackFault) : Type 0 where
   pub image : fault .image ≡ 0
   pub byte : fault .byte ≡ 0
 
+-- the bytes have this fault
 abbrev pub FaultyBytes : List ℕ → StackFault → Type 0
 FaultyBytes bytes fault = FirstFaulty bytes fault ⊎ OverLimits bytes fault

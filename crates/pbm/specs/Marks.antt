@@ -23,10 +23,11 @@ raster-place w x y = y * row-bytes w + x / 8
 abbrev pub raster-cells : Sizes → List (List ℕ) → Place → Bool
 raster-cells s rasters at = inside s at && bit-is-set (getD (getD rasters (at .2) []) (raster-place (s .nx) (at .0) (at .1)) 0) (at .0)
 
--- the same of the bytes of a whole stack of these sizes, headers and all
+-- the bytes of an image, from its start to the next
 abbrev pub image-bytes : Sizes → ℕ
 image-bytes s = length (header (s .nx) (s .ny)) + raster-bytes (s .nx) (s .ny)
 
+-- the same cells, by the places of their bits among all bytes of the stack
 abbrev pub stack-cells : Sizes → List ℕ → Place → Bool
 stack-cells s bytes at = inside s at && bit-is-set (getD bytes (at .2 * image-bytes s + (length (header (s .nx) (s .ny)) + raster-place (s .nx) (at .0) (at .1))) 0) (at .0)
 

@@ -47,7 +47,8 @@ impl StackFault {
         (self.cause.number(), self.image, self.byte)
     }
 
-    /// The same fault, its byte counted from a place that stands `start` bytes before the stack.
+    /// The same fault, its byte counted from a place that stands `start` bytes before the stack, and held at the
+    /// largest number.
     pub fn moved_by(self, start: usize) -> StackFault
         ensures { λ r. ⌜ r ≡ counted-from start self ⌝ }
     {
