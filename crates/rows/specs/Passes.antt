@@ -15,17 +15,18 @@ use Rattle.grid.specs.declared.refusal.Refusal.the-variants.{RowLevel, RowValue
 use Rattle.grid.specs.Distance.{Near}
 use Rattle.grid.specs.Cells.{cell-at}
 use Rattle.grid.specs.RowGeometry.{row-at}
-use Rattle.grid.specs.Rows.{NearOn, Best, SliceRowDone, records}
+use Rattle.grid.specs.Rows.{NearOn, Best, RowDone, records}
 use Rattle.grid.specs.RowDoors.{row-stands, row-cells-door}
 
 -- does every cell of the row stand at the level below the axis d, and is each value in it at most what a point carries to d?
-abbrev pub pass-door : (ℕ → ℕ) → ℕ → Row → List Cell → Option Refusal
-pass-door ceiling d row cells = row-cells-door (row .count) (records cells (row-at row)) (d - 1) (ceiling (d - 1))
+-- The row has n places, and `at i` is the number of the cell at its place i.
+abbrev pub pass-door : (ℕ → ℕ) → ℕ → ℕ → (ℕ → ℕ) → List Cell → Option Refusal
+pass-door ceiling d n at cells = row-cells-door n (records cells at) (d - 1) (ceiling (d - 1))
 
 -- the row is refused by its door and no cell has changed, or it is worked
-abbrev pub Worked : {T : Type 0} → Result T Refusal → Near → (ℕ → ℕ) → ℕ → Row → List Cell → List Cell → Type 0
-Worked (Ok x) near ceiling d row before after = (pass-door ceiling d row before ≡ None) × SliceRowDone near d row before after
-Worked (Err e) near ceiling d row before after = (pass-door ceiling d row before ≡ Some e) × (after ≡ before)
+abbrev pub Worked : {T : Type 0} → Result T Refusal → Near → (ℕ → ℕ) → ℕ → ℕ → (ℕ → ℕ) → List Cell → List Cell → Type 0
+Worked (Ok x) near ceiling d n at before after = (pass-door ceiling d n at before ≡ None) × RowDone near d n at before after
+Worked (Err e) near ceiling d n at before after = (pass-door ceiling d n at before ≡ Some e) × (after ≡ before)
 
 -- the refusal of a row that has too large a value: a wrong level comes first
 abbrev pub late-refusal : ℕ → (ℕ → Cell) → ℕ → Refusal
