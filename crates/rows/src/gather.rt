@@ -53,7 +53,7 @@ pub(crate) fn gather<R: Rule>(
     requires axis { ⌜ OnAxis axis ⌝ }
     requires row { ⌜ LiesIn row (length (now cells)) ⌝ }
     requires room { ⌜ row .count ≤ length (now stack) ⌝ }
-    ensures { λ r. ⌜ Admits r (pass-door (ceiling (now (rule .entry))) axis (row .count) (row-at row) (now (cells .entry))) (Gathered (near (now (rule .entry)) axis) (row .count) (records (now (cells .entry)) (row-at row)) (row .count) (now (stack .exit))) ⌝ }
+    ensures { λ r. ⌜ Admits r (pass-door (ceiling (now (rule .entry))) axis row (now (cells .entry))) (Gathered (near (now (rule .entry)) axis) (row .count) (records (now (cells .entry)) (row-at row)) (row .count) (now (stack .exit))) ⌝ }
 {
     let most = most_on(rule, axis);
     let mut len = 0;

@@ -1,5 +1,5 @@
 ghost use lib.ListN.{length};
-ghost use Rattle.grid.specs.RowGeometry.{OnAxis, LiesIn, row-at};
+ghost use Rattle.grid.specs.RowGeometry.{OnAxis, LiesIn};
 ghost use Rattle.rows.specs.Passes.{Worked};
 use crate::gather::gather;
 use crate::room::Room;
@@ -26,7 +26,7 @@ pub fn work_row<R: Rule>(
 ) -> Result<(), Refusal>
     requires axis { ⌜ OnAxis axis ⌝ }
     requires row { ⌜ LiesIn row (length (now cells)) ⌝ }
-    ensures { λ r. ⌜ Worked r (near (now (rule .entry))) (ceiling (now (rule .entry))) axis (row .count) (row-at row) (now (cells .entry)) (now (cells .exit)) ⌝ }
+    ensures { λ r. ⌜ Worked r (near (now (rule .entry))) (ceiling (now (rule .entry))) axis row (now (cells .entry)) (now (cells .exit)) ⌝ }
 {
     let len = gather(rule, axis, cells, row, &mut room.candidates)?;
     if len == 0 {
