@@ -56,6 +56,11 @@ pub record AllHold (near : Near) (s : Sizes) (marks : Marks) (cells : List Cell)
 abbrev pub AllAt : Sizes → ℕ → List Cell → Type 0
 AllAt s d cells = (k : ℕ) → k < cell-count s → cell-at cells k .level ≡ d
 
+-- the finished field: every cell holds a nearest marked cell of the whole grid, or none where there is no mark
+pub record FinishedField (near : Near) (s : Sizes) (marks : Marks) (cells : List Cell) : Type 0 where
+  pub all-hold : AllHold near s marks cells
+  pub all-at-3 : AllAt s 3 cells
+
 -- the record of the cell k before any row is worked
 abbrev pub painted : Bool → ℕ → Cell
 painted b k = record { marked = b; level = 0; point = cond b (Some k) None; value = 0 }

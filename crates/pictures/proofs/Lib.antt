@@ -1,0 +1,10 @@
+pub mod Axes
+pub mod Differing
+pub mod Turning
+pub mod Corners
+pub mod SameFaces
+pub mod Crossings
+pub mod Halving
+pub mod Greying
+pub mod Counting
+pub mod Finding

@@ -1,36 +1,30 @@
-ghost use mathlib.Core.Path.{_≡_};
 ghost use Prim.Native.Nat.{_<_, _≤_, _^_};
-ghost use Rattle.std.specs.Results.{Cases};
+ghost use Rattle.grid.specs.Doors.{Admits};
 ghost use Rattle.rules.specs.Ranges.{IsSpacing, Crosses};
-ghost use Rattle.rules.specs.Formulas.{spacing, widest, HasSpacings, block, block-ceiling};
-ghost use Rattle.grid.specs.declared.refusal.Refusal.the-variants.{SpacingRange};
+ghost use Rattle.rules.specs.Doors.{spacing-door};
+ghost use Rattle.rules.specs.Formulas.{HasSpacings, block, block-near, block-ceiling};
+use crate::quotient::rounded_up;
 use crate::rule::Rule;
 use crate::spacings::Spacings;
 use grid::Refusal;
 
-/// Gaps, added up.
+/// The block rule: a point costs what it carries and its gap.
 #[derive(Clone, Copy)]
 pub struct Block {
     spacings: Spacings,
 }
 
 impl Block {
-    pub fn new(first: u32, second: u32, third: u32) -> Result<Block, Refusal>
-        ensures { λ r. ⌜ Cases r (λ b. HasSpacings (b .spacings) first second third) (λ e. (e ≡ SpacingRange) × (IsSpacing first × IsSpacing second × IsSpacing third → ⊥)) ⌝ }
+    /// The rule over the spacings of the axes x, y and z, each from 1 to 10,000; refused with `SpacingRange` otherwise.
+    pub fn new(sx: u32, sy: u32, sz: u32) -> Result<Block, Refusal>
+        ensures { λ r. ⌜ Admits r (spacing-door sx sy sz) (λ b. HasSpacings (b .spacings) sx sy sz) ⌝ }
     {
-        let spacings = Spacings::new(first, second, third)?;
+        let spacings = Spacings::new(sx, sy, sz)?;
         Ok(Block { spacings })
-    }
-
-    fn widest(&self, axis: u8) -> u64
-        ensures value { λ r. ⌜ r ≡ widest (now (self .entry) .spacings) axis ⌝ }
-        ensures small { λ r. ⌜ r ≤ 10220000 ⌝ }
-    {
-        1022 * self.spacings.on(axis) as u64
     }
 }
 
-/// The lowest place at which a point at `j` that carries `h` is no farther than one at `i` that carries `g`.
+/// The lowest place at which a point at `j` that carries `h` is no farther than one at `i` that carries `g`, or 1,023.
 fn block_crossing(s: u32, i: u32, g: u64, j: u32, h: u64) -> u32
     requires allowed { ⌜ IsSpacing s ⌝ }
     requires places { ⌜ (i < j) × (j < 1023) ⌝ }
@@ -45,26 +39,27 @@ fn block_crossing(s: u32, i: u32, g: u64, j: u32, h: u64) -> u32
     if g + apart < h {
         return 1023;
     }
-    let place = (h + s * (i + j) - g).div_ceil(2 * s);
+    // Between the two points the later one gains `2 * s` with each place.
+    let place = rounded_up(h + s * (i + j) - g, 2 * s);
     place as u32
 }
 
 pub impl Rule for Block as BlockRule {
-    ghost near = { λ r d i t g. block (spacing (r .spacings) d) i t g };
+    ghost near = { λ r. block-near (r .spacings) };
 
-    ghost ceiling = { λ r d. block-ceiling (r .spacings) d };
+    ghost ceiling = { λ r. block-ceiling (r .spacings) };
 
     fn ceiling(&self, axis: u8) -> Option<u64> {
         match axis {
-            1 => Some(self.widest(1)),
-            2 => Some(self.widest(1) + self.widest(2)),
-            3 => Some(self.widest(1) + self.widest(2) + self.widest(3)),
+            1 => Some(self.spacings.widest(1)),
+            2 => Some(self.spacings.widest(1) + self.spacings.widest(2)),
+            3 => Some(self.spacings.widest(1) + self.spacings.widest(2) + self.spacings.widest(3)),
             _ => None,
         }
     }
 
     fn near_in(&self, axis: u8, from: u32, at: u32, carried: u64) -> u64 {
-        let gap = self.spacings.on(axis) as u64 * from.abs_diff(at) as u64;
+        let gap = self.spacings.gap(axis, from, at);
         carried + gap
     }
 

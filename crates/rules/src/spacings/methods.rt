@@ -1,44 +1,56 @@
 ghost use mathlib.Core.Path.{_≡_};
-ghost use Rattle.std.specs.Orderings.{Decides};
-ghost use Rattle.std.specs.Results.{Cases};
-ghost use Rattle.rules.specs.Ranges.{IsSpacing};
-ghost use Rattle.rules.specs.Formulas.{spacing, HasSpacings};
-ghost use Rattle.grid.specs.declared.refusal.Refusal.the-variants.{SpacingRange};
+ghost use Prim.Native.Nat.{_≤_};
+ghost use Rattle.grid.specs.Doors.{Admits};
+ghost use Rattle.rules.specs.Doors.{is-spacing, spacing-door};
+ghost use Rattle.rules.specs.Formulas.{spacing, gap, widest, HasSpacings};
+use crate::spacings::MAX_SPACING;
 use crate::spacings::Spacings;
 use grid::Refusal;
 
 impl Spacings {
-    /// The three spacings, if each is 1 to 10,000.
-    pub fn new(first: u32, second: u32, third: u32) -> Result<Spacings, Refusal>
-        ensures { λ r. ⌜ Cases r (λ s. HasSpacings s first second third) (λ e. (e ≡ SpacingRange) × (IsSpacing first × IsSpacing second × IsSpacing third → ⊥)) ⌝ }
+    /// The spacings of the axes x, y and z, each from 1 to 10,000; refused with `SpacingRange` otherwise.
+    pub fn new(sx: u32, sy: u32, sz: u32) -> Result<Spacings, Refusal>
+        ensures { λ r. ⌜ Admits r (spacing-door sx sy sz) (λ s. HasSpacings s sx sy sz) ⌝ }
     {
-        if allowed(first) && allowed(second) && allowed(third) {
-            Ok(Spacings {
-                first,
-                second,
-                third,
-            })
+        if is_spacing(sx) && is_spacing(sy) && is_spacing(sz) {
+            Ok(Spacings { sx, sy, sz })
         } else {
             Err(Refusal::SpacingRange)
         }
     }
 
-    /// The spacing of an axis.
+    /// The spacing of an axis, 1 to 3. Below 1 the first axis stands in, above 3 the third.
     pub fn on(&self, axis: u8) -> u32
         ensures { λ r. ⌜ r ≡ spacing (now (self .entry)) axis ⌝ }
     {
         if axis <= 1 {
-            self.first
+            self.sx
         } else if axis <= 2 {
-            self.second
+            self.sy
         } else {
-            self.third
+            self.sz
         }
+    }
+
+    /// How far apart two places of the axis are.
+    pub(crate) fn gap(&self, axis: u8, from: u32, at: u32) -> u64
+        ensures { λ r. ⌜ r ≡ gap (spacing (now (self .entry)) axis) from at ⌝ }
+    {
+        self.on(axis) as u64 * from.abs_diff(at) as u64
+    }
+
+    /// The widest gap on the axis.
+    pub(crate) fn widest(&self, axis: u8) -> u64
+        ensures value { λ r. ⌜ r ≡ widest (now (self .entry)) axis ⌝ }
+        ensures small { λ r. ⌜ r ≤ 10220000 ⌝ }
+    {
+        1022 * self.on(axis) as u64
     }
 }
 
-fn allowed(width: u32) -> bool
-    ensures { λ r. ⌜ Decides r (IsSpacing width) ⌝ }
+/// Whether an axis can have this spacing.
+fn is_spacing(s: u32) -> bool
+    ensures { λ r. ⌜ r ≡ is-spacing s ⌝ }
 {
-    1 <= width && width <= 10_000
+    1 <= s && s <= MAX_SPACING
 }

@@ -1,0 +1,3 @@
+pub mod Digits
+pub mod Reading
+pub mod Turns

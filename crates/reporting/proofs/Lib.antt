@@ -1,0 +1,5 @@
+mod Words
+mod NameLines
+mod ValueLines
+mod Roots
+mod Printing

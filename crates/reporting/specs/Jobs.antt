@@ -1,0 +1,87 @@
+-- The text of a job: a line of column names, a line of their values in the same order, and then a stack of images.
+use mathlib.Core.Path.{_≡_}
+use mathlib.Core.Logic.{_≢_}
+use mathlib.Core.List.{List, [], _∷_, _++_, map}
+use Prim.Native.Nat.{ℕ, _≤_}
+use lib.Chars.{codes}
+use Rattle.numerals.specs.Numerals.{numeral}
+use Rattle.reporting.specs.Lines.{line-of}
+use Rattle.reporting.specs.declared.columns.Column.{Column}
+use Rattle.reporting.specs.declared.columns.Column.the-variants.{Rule, Sx, Sy, Sz}
+use Rattle.reporting.specs.declared.columns.Order.{Order}
+use Rattle.reporting.specs.declared.settings.RuleName.{RuleName}
+use Rattle.reporting.specs.declared.settings.RuleName.the-variants.{Square, Block, Chess}
+use Rattle.reporting.specs.declared.settings.Settings.{Settings}
+
+abbrev pub column-name : Column → List ℕ
+column-name Rule = codes "rule"
+column-name Sx = codes "sx"
+column-name Sy = codes "sy"
+column-name Sz = codes "sz"
+
+abbrev pub rule-name : RuleName → List ℕ
+rule-name Square = codes "square"
+rule-name Block = codes "block"
+rule-name Chess = codes "chess"
+
+abbrev pub columns : Order → List Column
+columns o = o .first ∷ o .second ∷ o .third ∷ o .fourth ∷ []
+
+-- no two of the four columns are the same, so each of the four stands in the order once
+pub record EachOnce (o : Order) : Type 0 where
+  pub first-second : o .first ≢ o .second
+  pub first-third : o .first ≢ o .third
+  pub first-fourth : o .first ≢ o .fourth
+  pub second-third : o .second ≢ o .third
+  pub second-fourth : o .second ≢ o .fourth
+  pub third-fourth : o .third ≢ o .fourth
+
+-- the text is the line of the names in this order, and the rest
+pub record Names (text : List ℕ) (o : Order) (rest : List ℕ) : Type 0 where
+  pub each-once : EachOnce o
+  pub whole : text ≡ line-of (map column-name (columns o)) ++ rest
+
+-- how the value of a column is written: a rule by its name, a spacing in decimal digits with no zero in front
+abbrev pub value-text : Settings → Column → List ℕ
+value-text s Rule = rule-name (s .rule)
+value-text s Sx = numeral (s .sx)
+value-text s Sy = numeral (s .sy)
+value-text s Sz = numeral (s .sz)
+
+-- a spacing is from 1 to 10,000
+abbrev pub ValueFits : Settings → Column → Type 0
+ValueFits s Rule = Unit {0}
+ValueFits s Sx = (1 ≤ s .sx) × (s .sx ≤ 10000)
+ValueFits s Sy = (1 ≤ s .sy) × (s .sy ≤ 10000)
+ValueFits s Sz = (1 ≤ s .sz) × (s .sz ≤ 10000)
+
+-- the text is the line of the values in this order, and the rest
+pub record Values (text : List ℕ) (o : Order) (s : Settings) (rest : List ℕ) : Type 0 where
+  pub first-fits : ValueFits s (o .first)
+  pub second-fits : ValueFits s (o .second)
+  pub third-fits : ValueFits s (o .third)
+  pub fourth-fits : ValueFits s (o .fourth)
+  pub whole : text ≡ line-of (map (value-text s) (columns o)) ++ rest
+
+-- the text is a word, the byte that ends it, and the rest
+abbrev pub ReadsWord : List ℕ → List ℕ → ℕ → List ℕ → Type 0
+ReadsWord text word end rest = text ≡ word ++ end ∷ rest
+
+abbrev pub NoWord : List ℕ → List ℕ → ℕ → Type 0
+NoWord text word end = (rest : List ℕ) → ReadsWord text word end rest → ⊥
+
+-- two settings differ in no column but this one
+abbrev pub SameBut : Column → Settings → Settings → Type 0
+SameBut Rule s t = (s .sx ≡ t .sx) × (s .sy ≡ t .sy) × (s .sz ≡ t .sz)
+SameBut Sx s t = (s .rule ≡ t .rule) × (s .sy ≡ t .sy) × (s .sz ≡ t .sz)
+SameBut Sy s t = (s .rule ≡ t .rule) × (s .sx ≡ t .sx) × (s .sz ≡ t .sz)
+SameBut Sz s t = (s .rule ≡ t .rule) × (s .sx ≡ t .sx) × (s .sy ≡ t .sy)
+
+-- the text begins with a value of the column, which the settings then have
+pub record ReadsSetting (before : Settings) (c : Column) (text : List ℕ) (end : ℕ) (after : Settings) (rest : List ℕ) : Type 0 where
+  pub fits : ValueFits after c
+  pub others-stay : SameBut c before after
+  pub whole : ReadsWord text (value-text after c) end rest
+
+abbrev pub NoSetting : List ℕ → Column → ℕ → Type 0
+NoSetting text c end = (s : Settings) → ValueFits s c → NoWord text (value-text s c) end
