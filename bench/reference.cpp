@@ -3,7 +3,8 @@
 //
 //   reference NX NY NZ SX SY SZ SEED PER_MILLE REPEATS
 //
-// writes the sum of all values to standard output and the seconds of each repeat to standard error.
+// writes the sum of all values to standard output, and to standard error for each repeat the seconds of the three axes and
+// their sum.
 #include <chrono>
 #include <cstdint>
 #include <cstdio>
@@ -73,6 +74,10 @@ static void work_row(Cell* cells, size_t stride, uint32_t n, uint64_t unit, uint
   }
 }
 
+static double seconds() {
+  return std::chrono::duration<double>(std::chrono::steady_clock::now().time_since_epoch()).count();
+}
+
 static void paint(std::vector<Cell>& cells, uint64_t seed, uint32_t per_mille) {
   uint64_t x = seed;
   for (size_t k = 0; k < cells.size(); k++) {
@@ -95,13 +100,16 @@ int main(int count, char** words) {
   std::vector<Cell> cells((size_t)nx * ny * nz);
   for (int repeat = 0; repeat < repeats; repeat++) {
     paint(cells, seed, per_mille);
-    auto start = std::chrono::steady_clock::now();
+    double start = seconds();
     for (size_t q = 0; q < (size_t)ny * nz; q++) work_row(&cells[q * nx], 1, nx, sx * sx, 1);
+    double first = seconds();
     for (uint32_t z = 0; z < nz; z++)
       for (uint32_t x = 0; x < nx; x++) work_row(&cells[x + (size_t)nx * ny * z], nx, ny, sy * sy, 2);
+    double second = seconds();
     for (uint32_t y = 0; y < ny; y++)
       for (uint32_t x = 0; x < nx; x++) work_row(&cells[x + (size_t)nx * y], (size_t)nx * ny, nz, sz * sz, 3);
-    fprintf(stderr, "%.5f\n", std::chrono::duration<double>(std::chrono::steady_clock::now() - start).count());
+    double third = seconds();
+    fprintf(stderr, "%.5f %.5f %.5f %.5f\n", first - start, second - first, third - second, third - start);
   }
   uint64_t sum = 0;
   for (const Cell& cell : cells) sum += cell.value;

@@ -4,8 +4,9 @@
 usage: bench/run.py [ROUNDS]     (after: rt check speed)
 
 In each round the reference and the three rules take their turns, so that whatever else the machine does falls on all of
-them alike. For each it prints the median and the least of the seconds of a whole grid, and their ratio to the reference's
-median and least. Under the square rule the sums of all values must agree with the reference's.
+them alike; where it may, the script raises its priority. For each it prints the median and the least of the seconds of a
+whole grid, and their ratio to the reference's median and least. Under the square rule the sums of all values must agree
+with the reference's.
 """
 import os, statistics, subprocess, sys, tempfile
 
@@ -28,6 +29,10 @@ def main():
     rounds = int(sys.argv[1]) if len(sys.argv) > 1 else 5
     if not os.path.exists(SPEED):
         sys.exit('target/bin/speed is not there: run rt check speed')
+    try:
+        os.nice(-20)
+    except PermissionError:
+        pass
     with tempfile.TemporaryDirectory() as folder:
         reference = os.path.join(folder, 'reference')
         subprocess.run(['g++', '-O3', '-o', reference, os.path.join(HERE, 'reference.cpp')], check=True)
