@@ -14,22 +14,27 @@ fn read_input(rt: &LibcRuntime) -> Result<Vec<u8>, AnyError> {
     Ok(input)
 }
 
-/// Prints the report on the input. A fault is printed too, and then ends the program with status 1.
-fn run(rt: &LibcRuntime) -> Result<(), AnyError> {
+/// Prints the report on the input, or its fault and nothing else; whether it was a report.
+fn run(rt: &LibcRuntime) -> Result<bool, AnyError> {
     let input = read_input(rt)?;
     match report(rt.alloc(), &input) {
         Ok(text) => {
             rt.print(text)?;
-            Ok(())
+            Ok(true)
         }
         Err(ReportError::Fault(fault)) => {
             rt.print(fault_text(rt.alloc(), fault)?)?;
-            Err("the input is faulty".into())
+            Ok(false)
         }
         Err(ReportError::NoMemory) => Err("there is not enough memory for the report".into()),
     }
 }
 
+/// An error ends the program with status 1; one that is no fault of the input is told on standard error.
 fn main(rt: LibcRuntime) -> Result<(), AnyError> {
-    rt.report(run(&rt))
+    if rt.report(run(&rt))? {
+        Ok(())
+    } else {
+        Err("the input is faulty".into())
+    }
 }
