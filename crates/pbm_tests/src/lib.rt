@@ -6,4 +6,6 @@ mod images;
 #[cfg(test)]
 mod limits;
 #[cfg(test)]
+mod piles;
+#[cfg(test)]
 mod support;
