@@ -1,5 +1,5 @@
 //! Reads a job text from standard input, and prints its report or its fault.
-use reporting::MOST_BYTES;
+use job_text::MOST_BYTES;
 use reporting::ReportError;
 use reporting::fault_text;
 use reporting::report;

@@ -1,6 +1,3 @@
-mod Words
-mod NameLines
-mod ValueLines
 mod Roots
 mod Printing
 mod Reporting

@@ -16,11 +16,11 @@ use Rattle.grid.specs.declared.cell.Cell.{Cell}
 use Rattle.grid.specs.declared.sizes.Sizes.{Sizes}
 use Rattle.grid.specs.Geometry.{Place, place-of}
 use Rattle.grid.specs.Cells.{cell-at}
-use Rattle.reporting.specs.declared.settings.RuleName.{RuleName}
+use Rattle.job_text.specs.declared.settings.RuleName.{RuleName}
 use Rattle.reporting.specs.Texts.{cell-line, record-line, lines-below, report-names, PrintsBelow}
 use Rattle.reporting.specs.declared.faults.Part.{Part}
 use Rattle.reporting.specs.declared.faults.ReportFault.{ReportFault}
-use Rattle.reporting.specs.Lines.{line-of}
+use Rattle.job_text.specs.Lines.{line-of}
 use Rattle.reporting.specs.Faults.{part-name, fault-part, fault-numbers, fault-text-of}
 
 front-number : (ns : List ℕ) (i : ℕ) → i < length ns → drop i ns ≡ getD ns i 0 ∷ drop (i + 1) ns

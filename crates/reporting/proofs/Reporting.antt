@@ -1,10 +1,10 @@
 -- From a finished field, a sound stack and a job text to the report on an input.
 use mathlib.Core.Path.{_≡_, refl, sym, ap, subst, _∙_}
 use mathlib.Core.Bool.{Bool, true}
-use mathlib.Core.List.{List, _++_, map}
+use mathlib.Core.List.{List}
 use Prim.Native.Nat.{ℕ, _+_, _-_, _≤_, _<_, min}
 use native.Mathlib.Omega.{arith}
-use lib.ListN.{length, length-append}
+use lib.ListN.{length}
 use Rattle.std.specs.declared.option.Option.{Option}
 use Rattle.std.specs.declared.option.Option.the-variants.{Some, None}
 use Rattle.grid.specs.declared.cell.Cell.{Cell}
@@ -21,13 +21,13 @@ use Rattle.pbm.specs.Marks.{stack-extent, stack-marks, stack-cells}
 use Rattle.pbm.specs.Promises.{Shows}
 use Rattle.rules.specs.declared.spacings.Spacings.{Spacings}
 use Rattle.rules.specs.Formulas.{HasSpacings}
-use Rattle.reporting.specs.declared.columns.Column.the-variants.{Sx, Sy, Sz}
+use Rattle.job_text.specs.declared.columns.Column.the-variants.{Sx, Sy, Sz}
 use Rattle.reporting.specs.declared.faults.ReportError.{ReportError}
 use Rattle.reporting.specs.declared.faults.ReportError.the-variants.{Fault, NoMemory}
-use Rattle.reporting.specs.declared.settings.RuleName.{RuleName}
-use Rattle.reporting.specs.declared.settings.Settings.{Settings}
-use Rattle.reporting.specs.Lines.{line-of}
-use Rattle.reporting.specs.Jobs.{IsJob, column-name, value-text, columns}
+use Rattle.job_text.specs.declared.settings.RuleName.{RuleName}
+use Rattle.job_text.specs.declared.settings.Settings.{Settings}
+use Rattle.job_text.specs.Jobs.{IsJob}
+use Rattle.job_text.proofs.Lengths.{stack-length}
 use Rattle.reporting.specs.Texts.{PrintsField, NoPoint, LacksPoint}
 use Rattle.reporting.specs.Reports.{SettingsFit, near-of, ReportsField, ReportsStack, Unmarked, NoField, Sound, ReportsInput, FaultyStack, TooLarge, SoundInput, NothingMarked, FaultyInput, Refuses}
 
@@ -48,13 +48,6 @@ no-field-from-no-point near s marks cells field NoMemory h = tt
 
 pub settings-fit : (input : List ℕ) (s : Settings) (stack : List ℕ) → IsJob input s stack → SettingsFit s
 settings-fit input s stack job = let fits = job .values .each-fits in record { on-x = fits Sx; on-y = fits Sy; on-z = fits Sz }
-
--- the stack is what comes after the two lines
-pub stack-length : (input : List ℕ) (s : Settings) (stack : List ℕ) → IsJob input s stack → length stack ≤ length input
-stack-length input s stack job =
-    let one = length-append (line-of (map column-name (columns (job .order)))) (job .second-line) in
-    let two = length-append (line-of (map (value-text s) (columns (job .order)))) stack in
-    omega (arith, one, two, ap length (job .names .whole), ap length (job .values .whole))
 
 pub named-rule : (settings : Settings) (name : RuleName) → settings .rule ≡ name → (w : Spacings) → HasSpacings w (settings .sx) (settings .sy) (settings .sz)
     → (s : Sizes) (marks : Place → Bool) (text : List ℕ) → ReportsField (settings .rule) (near-of name w) s (marks-by-number s marks) text → ReportsStack settings s marks text

@@ -5,13 +5,13 @@ use lib.Chars.{codes}
 use Rattle.std.specs.Written.{decimal}
 use Rattle.grid.specs.Refusals.{refusal-number}
 use Rattle.pbm.specs.Causes as stack-fault
-use Rattle.reporting.specs.declared.faults.JobFault.{JobFault}
-use Rattle.reporting.specs.declared.faults.JobFault.the-variants.{TooLong, Names, Values}
+use Rattle.job_text.specs.declared.job.JobFault.{JobFault}
+use Rattle.job_text.specs.declared.job.JobFault.the-variants.{TooLong, Names, Values}
 use Rattle.reporting.specs.declared.faults.ReportFault.{ReportFault}
 use Rattle.reporting.specs.declared.faults.ReportFault.the-variants.{Job, Stack, LargeStack, Field}
 use Rattle.reporting.specs.declared.faults.Part.{Part}
 use Rattle.reporting.specs.declared.faults.Part.the-variants as part
-use Rattle.reporting.specs.Lines.{line-of}
+use Rattle.job_text.specs.Lines.{line-of}
 
 abbrev pub part-name : Part → List ℕ
 part-name part.Job = codes "job"

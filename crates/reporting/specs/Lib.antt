@@ -1,5 +1,3 @@
-pub mod Lines
-pub mod Jobs
 pub mod Faults
 pub mod Texts
 pub mod Reports

@@ -22,10 +22,10 @@ use Rattle.reporting.specs.declared.faults.ReportError.{ReportError}
 use Rattle.reporting.specs.declared.faults.ReportError.the-variants.{Fault, NoMemory}
 use Rattle.reporting.specs.declared.faults.ReportFault.{ReportFault}
 use Rattle.reporting.specs.declared.faults.ReportFault.the-variants.{Job, Stack, LargeStack, Field}
-use Rattle.reporting.specs.declared.settings.RuleName.{RuleName}
-use Rattle.reporting.specs.declared.settings.RuleName.the-variants.{Square, Block, Chess}
-use Rattle.reporting.specs.declared.settings.Settings.{Settings}
-use Rattle.reporting.specs.Jobs.{IsJob, FaultyJob}
+use Rattle.job_text.specs.declared.settings.RuleName.{RuleName}
+use Rattle.job_text.specs.declared.settings.RuleName.the-variants.{Square, Block, Chess}
+use Rattle.job_text.specs.declared.settings.Settings.{Settings}
+use Rattle.job_text.specs.Jobs.{IsJob, FaultyJob}
 use Rattle.reporting.specs.Texts.{PrintsField}
 
 -- the spacings are from 1 to 10,000

@@ -17,9 +17,9 @@ use Rattle.grid.specs.declared.refusal.Refusal.the-variants.{NoMark}
 use Rattle.reporting.specs.declared.faults.ReportError.{ReportError}
 use Rattle.reporting.specs.declared.faults.ReportError.the-variants.{Fault, NoMemory}
 use Rattle.reporting.specs.declared.faults.ReportFault.the-variants.{Field}
-use Rattle.reporting.specs.declared.settings.RuleName.{RuleName}
-use Rattle.reporting.specs.declared.settings.RuleName.the-variants.{Square, Block, Chess}
-use Rattle.reporting.specs.Lines.{line-of}
+use Rattle.job_text.specs.declared.settings.RuleName.{RuleName}
+use Rattle.job_text.specs.declared.settings.RuleName.the-variants.{Square, Block, Chess}
+use Rattle.job_text.specs.Lines.{line-of}
 
 -- the largest of the numbers up to n whose square is at most v
 abbrev pub root-up-to : ℕ → ℕ → ℕ

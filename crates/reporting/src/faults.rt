@@ -5,20 +5,11 @@ ghost use Rattle.reporting.specs.Faults.{part-name, fault-part, fault-numbers}
 ghost use Rattle.reporting.specs.declared.faults.ReportError.the-variants.{NoMemory};
 use grid::Refusal;
 use grid::RefusalDebug;
+use job_text::JobFault;
+use job_text::JobFaultDebug;
 use pbm::StackFault;
 use pbm::StackFaultDebug;
 use std::alloc::AllocError;
-
-/// What is wrong with the two lines before the stack.
-#[derive(Clone, Copy, PartialEq, Eq, Debug)]
-pub enum JobFault {
-    /// The input is longer than 8,192 bytes.
-    TooLong,
-    /// The first line does not name each column once.
-    Names,
-    /// The second line has no right value for each column; it starts at this byte.
-    Values(usize),
-}
 
 /// What is wrong with an input. Bytes count from the input's start.
 #[derive(Clone, Copy, Debug)]

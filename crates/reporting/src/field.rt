@@ -10,12 +10,12 @@ ghost use Rattle.reporting.specs.Reports.{SettingsFit, ReportsField, NoField, 
 use crate::faults::ReportError;
 use crate::faults::ReportErrorFromAlloc;
 use crate::faults::ReportFault;
-use crate::job::read_job;
-use crate::settings::RuleName;
-use crate::settings::Settings;
 use crate::text::field_text;
 use exhaustive::search_field;
 use grid::Cell;
+use job_text::RuleName;
+use job_text::Settings;
+use job_text::read_job;
 use pbm::Stack;
 use pbm::StackPicture;
 use pictures::Picture;

@@ -1,6 +1,7 @@
 use Rattle.std.proofs.shelf.Results.{cases-weaker}
 use Rattle.std.specs.Of.String.{string-bytes}
-use Rattle.reporting.proofs.Reporting.{settings-fit, stack-length, faulty-stack, large-stack, reports-input, no-report}
+use Rattle.job_text.proofs.Lengths.{stack-length}
+use Rattle.reporting.proofs.Reporting.{settings-fit, faulty-stack, large-stack, reports-input, no-report}
 use Rattle.reporting.proofs.field.report.Needs as need
 
 pub sub-start : need.sub-start

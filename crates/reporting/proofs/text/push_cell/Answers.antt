@@ -4,7 +4,7 @@ use Prim.Native.Nat.{ℕ}
 use Rattle.std.specs.Of.String.{string-bytes}
 use Rattle.std.specs.Written.{decimal}
 use Rattle.std.proofs.shelf.Results.{made-weaker}
-use Rattle.reporting.specs.Lines.{line-of}
+use Rattle.job_text.specs.Lines.{line-of}
 use Rattle.reporting.proofs.text.push_cell.Needs as need
 
 pub returns : need.returns

@@ -3,7 +3,7 @@ use mathlib.Core.List.{_++_, map}
 use lib.ListN.{drop}
 use Rattle.std.specs.Of.String.{string-bytes}
 use Rattle.std.specs.Written.{decimal}
-use Rattle.reporting.specs.Lines.{line-of}
+use Rattle.job_text.specs.Lines.{line-of}
 use Rattle.reporting.proofs.text.push_numbers.Given as given
 
 abbrev pub Inv-loop-i : given.InvT-loop-i

@@ -1,5 +1,5 @@
 use mathlib.Core.Path.{sym, ap, _∙_}
-use Rattle.reporting.specs.declared.settings.RuleName.{RuleName}
+use Rattle.job_text.specs.declared.settings.RuleName.{RuleName}
 use Rattle.reporting.specs.Texts.{shown-distance}
 use Rattle.reporting.proofs.Roots.{root-between}
 use Rattle.reporting.proofs.text.shown_distance.Needs as need

@@ -5,7 +5,7 @@ ghost use Prim.Native.Nat.{ℕ};
 ghost use Rattle.std.specs.Options.{Cases};
 ghost use Rattle.std.specs.Orderings.{Decides};
 ghost use Rattle.numerals.specs.Numerals.{ending-byte};
-ghost use Rattle.reporting.specs.Jobs.{EachOnce, Names, column-name, ReadsWord, NoWord};
+ghost use Rattle.job_text.specs.Jobs.{EachOnce, Names, column-name, ReadsWord, NoWord};
 use numerals::Ending;
 use numerals::after_prefix;
 

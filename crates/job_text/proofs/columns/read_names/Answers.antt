@@ -2,8 +2,8 @@ use mathlib.Core.Bool.{true, false}
 use mathlib.Core.Path.{_≡_}
 use Prim.Native.Nat.{ℕ}
 use native.Mathlib.Omega.{arith}
-use Rattle.reporting.proofs.NameLines.{no-first-name, no-second-name, no-third-name, no-fourth-name, read-once}
-use Rattle.reporting.proofs.columns.read_names.Needs as need
+use Rattle.job_text.proofs.NameLines.{no-first-name, no-second-name, no-third-name, no-fourth-name, read-once}
+use Rattle.job_text.proofs.columns.read_names.Needs as need
 
 pub returns-in-Break-first : need.returns-in-Break-first
 returns-in-Break-first c = rw (c .from-residual .ensures) (λ o rest names. no-first-name _ o rest names (c .in-Break-first .ensures tt))

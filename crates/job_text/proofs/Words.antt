@@ -9,7 +9,7 @@ use Rattle.std.specs.Options.{Cases}
 use Rattle.std.specs.declared.option.Option.{Option}
 use Rattle.std.specs.declared.option.Option.the-variants.{Some, None}
 use Rattle.std.proofs.shelf.Parts.{first-rest}
-use Rattle.reporting.specs.Jobs.{ReadsWord, NoWord}
+use Rattle.job_text.specs.Jobs.{ReadsWord, NoWord}
 
 -- a text whose first byte is the ending
 pub ending-first : (text : List ℕ) (byte end : ℕ) → 1 ≤ length text → getD text 0 0 ≡ byte → byte ≡ end → ReadsWord text [] end (take (length text - 1) (drop 1 text))

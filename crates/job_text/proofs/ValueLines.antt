@@ -6,13 +6,13 @@ use mathlib.Core.Logic.{_≢_}
 use mathlib.Core.List.{List, [], _∷_, _++_, append-assoc}
 use Rattle.numerals.specs.Numerals.{numeral}
 use Rattle.numerals.proofs.Reading.{reads-same}
-use Rattle.reporting.specs.declared.columns.Column.{Column}
-use Rattle.reporting.specs.declared.columns.Column.the-variants.{Rule, Sx, Sy, Sz}
-use Rattle.reporting.specs.declared.columns.Order.{Order}
-use Rattle.reporting.specs.declared.settings.RuleName.{RuleName}
-use Rattle.reporting.specs.declared.settings.RuleName.the-variants.{Square, Block, Chess}
-use Rattle.reporting.specs.declared.settings.Settings.{Settings}
-use Rattle.reporting.specs.Jobs.{EachOnce, rule-name, value-text, ValueFits, Values, ReadsWord, ReadsSetting, NoSetting, SameBut}
+use Rattle.job_text.specs.declared.columns.Column.{Column}
+use Rattle.job_text.specs.declared.columns.Column.the-variants.{Rule, Sx, Sy, Sz}
+use Rattle.job_text.specs.declared.columns.Order.{Order}
+use Rattle.job_text.specs.declared.settings.RuleName.{RuleName}
+use Rattle.job_text.specs.declared.settings.RuleName.the-variants.{Square, Block, Chess}
+use Rattle.job_text.specs.declared.settings.Settings.{Settings}
+use Rattle.job_text.specs.Jobs.{EachOnce, rule-name, value-text, ValueFits, Values, ReadsWord, ReadsSetting, NoSetting, SameBut}
 
 rule-same : (m n : RuleName) (e : ℕ) (r t : List ℕ) → rule-name m ++ e ∷ r ≡ rule-name n ++ e ∷ t → r ≡ t
 rule-same Square Square e r t h = cc

@@ -1,9 +1,9 @@
 use denote.Ref.{now}
 use mathlib.Core.Path.{refl}
-use Rattle.reporting.specs.declared.settings.RuleName.the-variants.{Square}
-use Rattle.reporting.proofs.Words.{option-weaker}
-use Rattle.reporting.proofs.ValueLines.{no-first-value, no-second-value, no-third-value, no-fourth-value, values-from-readings, blank-fits}
-use Rattle.reporting.proofs.settings.read_values.Needs as need
+use Rattle.job_text.specs.declared.settings.RuleName.the-variants.{Square}
+use Rattle.job_text.proofs.Words.{option-weaker}
+use Rattle.job_text.proofs.ValueLines.{no-first-value, no-second-value, no-third-value, no-fourth-value, values-from-readings, blank-fits}
+use Rattle.job_text.proofs.settings.read_values.Needs as need
 
 pub returns-in-Break-one : need.returns-in-Break-one
 returns-in-Break-one c = rw (c .from-residual .ensures) (λ s rest values. no-first-value _ _ s rest values (c .in-Break-one .ensures tt))

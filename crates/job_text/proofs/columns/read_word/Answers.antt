@@ -1,6 +1,6 @@
 use denote.Ref.{now}
-use Rattle.reporting.proofs.Words.{option-weaker, word-then, no-word-then}
-use Rattle.reporting.proofs.columns.read_word.Needs as need
+use Rattle.job_text.proofs.Words.{option-weaker, word-then, no-word-then}
+use Rattle.job_text.proofs.columns.read_word.Needs as need
 
 pub returns : need.returns
 returns c =

@@ -3,10 +3,10 @@ use Prim.Native.Nat.{ℕ}
 use native.Mathlib.Omega.{arith}
 use mathlib.Core.Path.{_≡_, refl, sym, ap, _∙_}
 use mathlib.Core.List.{List, [], _∷_, _++_, map, append-assoc}
-use Rattle.reporting.specs.declared.columns.Column.{Column}
-use Rattle.reporting.specs.declared.columns.Column.the-variants.{Rule, Sx, Sy, Sz}
-use Rattle.reporting.specs.declared.columns.Order.{Order}
-use Rattle.reporting.specs.Jobs.{column-name, EachOnce, Names, ReadsWord, NoWord}
+use Rattle.job_text.specs.declared.columns.Column.{Column}
+use Rattle.job_text.specs.declared.columns.Column.the-variants.{Rule, Sx, Sy, Sz}
+use Rattle.job_text.specs.declared.columns.Order.{Order}
+use Rattle.job_text.specs.Jobs.{column-name, EachOnce, Names, ReadsWord, NoWord}
 
 -- what is read of a name is the only way to read one there
 abbrev Same : Column → Column → List ℕ → List ℕ → Type 0

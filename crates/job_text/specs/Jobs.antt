@@ -6,15 +6,15 @@ use Prim.Native.Nat.{ℕ, _≤_, _<_}
 use lib.Chars.{codes}
 use lib.ListN.{length}
 use Rattle.numerals.specs.Numerals.{numeral}
-use Rattle.reporting.specs.Lines.{line-of}
-use Rattle.reporting.specs.declared.columns.Column.{Column}
-use Rattle.reporting.specs.declared.columns.Column.the-variants.{Rule, Sx, Sy, Sz}
-use Rattle.reporting.specs.declared.columns.Order.{Order}
-use Rattle.reporting.specs.declared.faults.JobFault.{JobFault}
-use Rattle.reporting.specs.declared.faults.JobFault.the-variants as fault
-use Rattle.reporting.specs.declared.settings.RuleName.{RuleName}
-use Rattle.reporting.specs.declared.settings.RuleName.the-variants.{Square, Block, Chess}
-use Rattle.reporting.specs.declared.settings.Settings.{Settings}
+use Rattle.job_text.specs.Lines.{line-of}
+use Rattle.job_text.specs.declared.columns.Column.{Column}
+use Rattle.job_text.specs.declared.columns.Column.the-variants.{Rule, Sx, Sy, Sz}
+use Rattle.job_text.specs.declared.columns.Order.{Order}
+use Rattle.job_text.specs.declared.job.JobFault.{JobFault}
+use Rattle.job_text.specs.declared.job.JobFault.the-variants as fault
+use Rattle.job_text.specs.declared.settings.RuleName.{RuleName}
+use Rattle.job_text.specs.declared.settings.RuleName.the-variants.{Square, Block, Chess}
+use Rattle.job_text.specs.declared.settings.Settings.{Settings}
 
 abbrev pub column-name : Column → List ℕ
 column-name Rule = codes "rule"

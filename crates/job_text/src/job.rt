@@ -1,13 +1,23 @@
 // The two lines before the stack.
 ghost use Rattle.std.specs.Results.{Cases};
-ghost use Rattle.reporting.specs.Jobs.{IsJob, FaultyJob};
+ghost use Rattle.job_text.specs.Jobs.{IsJob, FaultyJob};
 use crate::columns::read_names;
-use crate::faults::JobFault;
 use crate::settings::Settings;
 use crate::settings::read_values;
 
 /// The longest input, in bytes.
 pub const MOST_BYTES: usize = 8192;
+
+/// What is wrong with the two lines before the stack.
+#[derive(Clone, Copy, PartialEq, Eq, Debug)]
+pub enum JobFault {
+    /// The input is longer than 8,192 bytes.
+    TooLong,
+    /// The first line does not name each column once.
+    Names,
+    /// The second line has no right value for each column; it starts at this byte.
+    Values(usize),
+}
 
 /// What an input asks for, and the bytes of its stack.
 #[derive(Clone, Copy)]

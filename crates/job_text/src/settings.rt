@@ -4,7 +4,7 @@ ghost use mathlib.Core.List.{List};
 ghost use Prim.Native.Nat.{ℕ};
 ghost use Rattle.std.specs.Options.{Cases};
 ghost use Rattle.numerals.specs.Numerals.{ending-byte};
-ghost use Rattle.reporting.specs.Jobs.{EachOnce, rule-name, NoWord, ReadsWord, ReadsSetting, NoSetting, Values};
+ghost use Rattle.job_text.specs.Jobs.{EachOnce, rule-name, NoWord, ReadsWord, ReadsSetting, NoSetting, Values};
 use crate::columns::Column;
 use crate::columns::ColumnPartialEq;
 use crate::columns::Order;

@@ -1,0 +1,4 @@
+mod Words
+mod NameLines
+mod ValueLines
+pub mod Lengths
