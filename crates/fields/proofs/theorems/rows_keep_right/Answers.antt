@@ -1,0 +1,5 @@
+use Rattle.fields.proofs.Orders as proved
+use Rattle.fields.proofs.theorems.rows_keep_right.Needs as need
+
+pub returns : need.returns
+returns c = proved.rows-keep-right
