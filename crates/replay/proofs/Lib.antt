@@ -1,0 +1,4 @@
+pub mod Painted
+pub mod Rowed
+pub mod Turns
+pub mod Going
