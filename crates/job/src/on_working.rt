@@ -2,6 +2,7 @@ ghost use mathlib.Core.Path.{_≡_};
 ghost use Prim.Native.Nat.{ℕ};
 ghost use lib.ListN.{length};
 ghost use Rattle.std.specs.declared.option.Option.the-variants.{None};
+ghost use Rattle.grid.specs.RowGeometry.{row-count};
 ghost use Rattle.job.specs.Cells.{marks-in, levels-in, painted-cells};
 ghost use Rattle.job.specs.Changes.{WorksRow};
 ghost use Rattle.job.specs.Doors.{lent, raise-door};
@@ -21,6 +22,13 @@ use rows::work_row;
 use rules::Rule;
 
 impl<R: Rule> Working<R> {
+    /// How many rows the job's axis has.
+    pub fn row_count(&self) -> u32
+        ensures { λ r. ⌜ r ≡ row-count (now (self .entry) .space .sizes) (now (self .entry) .axis .number) ⌝ }
+    {
+        self.space.sizes.row_count_in(self.axis.number)
+    }
+
     /// Works the row of a number on the job's axis: each cell of it gets a nearest of the points that the row holds. Marks
     /// and other cells stay.
     ///
@@ -42,7 +50,7 @@ impl<R: Rule> Working<R> {
         }
         let sizes = self.space.sizes;
         let axis = self.axis.number;
-        if number >= sizes.row_count_in(axis) {
+        if number >= self.row_count() {
             return Err(Refusal::NoSuchRow);
         }
         let row = sizes.row_in(axis, number);
