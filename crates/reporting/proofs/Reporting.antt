@@ -1,6 +1,14 @@
 -- From a finished field, a sound stack and a job text to the report on an input.
 use mathlib.Core.Path.{_≡_, refl, sym, ap, subst, _∙_}
-use mathlib.Core.Bool.{Bool, true}
+use mathlib.Core.Bool.{Bool, true, false}
+use borrow.Author.Tests.{eq-eqb}
+use Rattle.grid.specs.declared.refusal.Refusal.{Refusal}
+use Rattle.grid.specs.declared.refusal.Refusal.the-variants.{NoMark, CellCount}
+use Rattle.grid.specs.Doors.{unless}
+use Rattle.job.specs.Doors.{some-place, start-door}
+use Rattle.job.proofs.Writing.{some-place-at}
+use Rattle.replay.specs.Whole.{field-door}
+use Rattle.reporting.specs.declared.faults.ReportFault.the-variants.{Field}
 use mathlib.Core.List.{List}
 use Prim.Native.Nat.{ℕ, _+_, _-_, _≤_, _<_, min}
 use native.Mathlib.Omega.{arith}
@@ -41,6 +49,17 @@ unmarked-from-no-point near s marks cells field none q below marked =
     let Q : Option ℕ → Type 0 = λ o. Answers near s marks 3 k o (cell-at cells k .value) in
     subst Q (none .no-point) (subst P (field .all-at-3 k here) (holds .nearest)) .1 q
     record { in-grid = below; is-marked = marked; in-slab = λ e lo hi. omega arith }
+
+-- the door of a field that has as many cells as its picture refuses only what has no mark
+pub no-field-behind-door : (s : Sizes) (marks : Marks) (cells : List Cell) (e : Refusal) → length cells ≡ cell-count s → field-door s marks cells ≡ Some e
+    → (Field e ≡ Field NoMark) × Unmarked s marks
+no-field-behind-door s marks cells e same door =
+    let asked : start-door s marks ≡ Some e = ap (λ (b : Bool). unless b CellCount (start-door s marks)) (sym (eq-eqb (length cells) (cell-count s) same)) ∙ door in
+    go (some-place (cell-count s) marks) refl asked
+  where
+    go : (b : Bool) → some-place (cell-count s) marks ≡ b → unless b NoMark None ≡ Some e → (Field e ≡ Field NoMark) × Unmarked s marks
+    go true h d = let y : _≡_ {A = ℕ} 0 1 = cc in absurd (omega arith)
+    go false h d = (let same-refusal : e ≡ NoMark = cc in ap Field same-refusal, λ k below marked. let z : true ≡ false = sym (some-place-at marks (cell-count s) k below marked) ∙ h in let y : _≡_ {A = ℕ} 0 1 = cc in omega arith)
 
 pub no-field-from-no-point : (near : Near) (s : Sizes) (marks : Marks) (cells : List Cell) → FinishedField near s marks cells → (e : ReportError) → LacksPoint cells e → NoField s marks e
 no-field-from-no-point near s marks cells field (Fault f) h = (h .0, unmarked-from-no-point near s marks cells field (h .1))

@@ -11,7 +11,6 @@ use crate::faults::ReportError;
 use crate::faults::ReportErrorFromAlloc;
 use crate::faults::ReportFault;
 use crate::text::field_text;
-use exhaustive::search_field;
 use grid::Cell;
 use job_text::RuleName;
 use job_text::Settings;
@@ -19,6 +18,7 @@ use job_text::read_job;
 use pbm::Stack;
 use pbm::StackPicture;
 use pictures::Picture;
+use replay::find_field;
 use rules::Block;
 use rules::BlockRule;
 use rules::Chess;
@@ -32,30 +32,30 @@ use std::alloc::Global;
 pub const MOST_CELLS: u32 = 2048;
 
 /// Finds the field of a picture under a rule in lent cells, one for each of the picture's, and prints it.
-fn report_cells<R: Rule, P: Picture>(
+fn report_cells<R: Rule + Drop, P: Picture>(
     heap: Global,
     name: RuleName,
-    rule: &R,
+    rule: R,
     picture: &P,
     cells: &mut [Cell],
 ) -> Result<String, ReportError>
     requires { ⌜ length (now cells) ≡ cell-count (extent (now picture)) ⌝ }
-    ensures { λ r. ⌜ Cases r (λ t. ReportsField name (near (now (rule .entry))) (extent (now (picture .entry))) (marks-by-number (extent (now (picture .entry))) (marks (now (picture .entry)))) (string-bytes t)) (λ e. NoField (extent (now (picture .entry))) (marks-by-number (extent (now (picture .entry))) (marks (now (picture .entry)))) e) ⌝ }
+    ensures { λ r. ⌜ Cases r (λ t. ReportsField name (near rule) (extent (now (picture .entry))) (marks-by-number (extent (now (picture .entry))) (marks (now (picture .entry)))) (string-bytes t)) (λ e. NoField (extent (now (picture .entry))) (marks-by-number (extent (now (picture .entry))) (marks (now (picture .entry)))) e) ⌝ }
 {
-    let Ok(()) = search_field(rule, picture, cells) else {
-        unreachable()
-    };
-    field_text(heap, name, picture.sizes(), cells)
+    match find_field(rule, picture, cells) {
+        Ok(_) => field_text(heap, name, picture.sizes(), cells),
+        Err(kept) => Err(ReportError::Fault(ReportFault::Field(kept.refusal))),
+    }
 }
 
 /// Finds the field of a picture under a rule, and prints it.
-fn report_field<R: Rule, P: Picture>(
+fn report_field<R: Rule + Drop, P: Picture>(
     heap: Global,
     name: RuleName,
-    rule: &R,
+    rule: R,
     picture: &P,
 ) -> Result<String, ReportError>
-    ensures { λ r. ⌜ Cases r (λ t. ReportsField name (near (now (rule .entry))) (extent (now (picture .entry))) (marks-by-number (extent (now (picture .entry))) (marks (now (picture .entry)))) (string-bytes t)) (λ e. NoField (extent (now (picture .entry))) (marks-by-number (extent (now (picture .entry))) (marks (now (picture .entry)))) e) ⌝ }
+    ensures { λ r. ⌜ Cases r (λ t. ReportsField name (near rule) (extent (now (picture .entry))) (marks-by-number (extent (now (picture .entry))) (marks (now (picture .entry)))) (string-bytes t)) (λ e. NoField (extent (now (picture .entry))) (marks-by-number (extent (now (picture .entry))) (marks (now (picture .entry)))) e) ⌝ }
 {
     let sizes = picture.sizes();
     let count = sizes.nx * sizes.ny * sizes.nz;
@@ -75,19 +75,19 @@ fn report_stack(heap: Global, settings: Settings, stack: &Stack) -> Result<Strin
             let Ok(square) = Square::new(sx, sy, sz) else {
                 unreachable()
             };
-            report_field(heap, rule, &square, stack)
+            report_field(heap, rule, square, stack)
         }
         RuleName::Block => {
             let Ok(block) = Block::new(sx, sy, sz) else {
                 unreachable()
             };
-            report_field(heap, rule, &block, stack)
+            report_field(heap, rule, block, stack)
         }
         RuleName::Chess => {
             let Ok(chess) = Chess::new(sx, sy, sz) else {
                 unreachable()
             };
-            report_field(heap, rule, &chess, stack)
+            report_field(heap, rule, chess, stack)
         }
     }
 }
