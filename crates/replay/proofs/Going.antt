@@ -2,7 +2,7 @@
 use mathlib.Core.Path.{_≡_, refl, sym, ap, subst, _∙_}
 use mathlib.Core.Bool.{Bool, false}
 use mathlib.Core.List.{List, [], _∷_, _++_}
-use Prim.Native.Nat.{ℕ, zero, suc, _+_, _≤_, _<_}
+use Prim.Native.Nat.{ℕ, _+_, _≤_, _<_}
 use native.Mathlib.Omega.{arith}
 use lib.ListN.{length, getD, set, take}
 use Rattle.std.proofs.shelf.Lists.{take-more, take-more-set, take-all}
@@ -26,7 +26,7 @@ use Rattle.std.specs.declared.result.Result.{Result}
 use Rattle.std.specs.declared.result.Result.the-variants.{Ok, Err}
 use Rattle.replay.specs.declared.jobs.Job.{Job}
 use Rattle.replay.specs.declared.jobs.Job.the-variants as job
-use Rattle.replay.specs.Book.{Stage, finished, Book, step, turned, after, opened, book-after}
+use Rattle.replay.specs.Book.{finished, Book, step, turned, after, opened, book-after}
 use Rattle.replay.specs.Jobs.{rule-of, sizes-of, stage-of, shown, Sound}
 use Rattle.replay.specs.Runs.{Ran, begun, called, Told, Called, Played, Replays, OneOutcome}
 use Rattle.replay.proofs.Painted.{marks-painted, painted-all, levels-0}

@@ -8,7 +8,6 @@ use Rattle.std.specs.declared.option.Option.the-variants.{Some, None}
 use Rattle.std.specs.declared.result.Result.{Result}
 use Rattle.std.specs.declared.result.Result.the-variants.{Ok, Err}
 use Rattle.grid.specs.declared.cell.Cell.{Cell}
-use Rattle.grid.specs.declared.refusal.Refusal.{Refusal}
 use Rattle.grid.specs.declared.sizes.Sizes.{Sizes}
 use Rattle.grid.specs.Geometry.{Place, cell-count, cell-number}
 use Rattle.grid.specs.Cells.{Marks, AllHold, FinishedField, cell-at, painted}

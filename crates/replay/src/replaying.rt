@@ -1,4 +1,3 @@
-ghost use mathlib.Core.Path.{_≡_};
 ghost use Rattle.replay.specs.Runs.{Replays, OneOutcome};
 ghost use Rattle.replay.specs.Book.{book-after};
 use crate::calls::Answer;
