@@ -1,12 +1,12 @@
 -- A row of the job's axis is worked where it is worked in the slice of cells.
-use mathlib.Core.Path.{_≡_, refl, sym, ap, subst, _∙_}
+use mathlib.Core.Path.{_≡_, sym, ap, subst, _∙_}
 use mathlib.Core.List.{List}
 use Prim.Native.Nat.{ℕ, _-_, _<_}
 use lib.Dec.{eqb, ltb}
 use lib.ListN.{length}
 use Rattle.std.proofs.shelf.Tests.{cond-true, eq-eqb, lt-ltb}
 use Rattle.std.specs.declared.option.Option.{Option}
-use Rattle.std.specs.declared.option.Option.the-variants.{Some, None}
+use Rattle.std.specs.declared.option.Option.the-variants.{Some}
 use Rattle.std.specs.declared.result.Result.{Result}
 use Rattle.std.specs.declared.result.Result.the-variants.{Ok, Err}
 use Rattle.grid.specs.declared.cell.Cell.{Cell}
@@ -17,7 +17,7 @@ use Rattle.grid.specs.declared.sizes.Sizes.{Sizes}
 use Rattle.grid.specs.Distance.{Near}
 use Rattle.grid.specs.Geometry.{IsGrid, axis-size, cell-count}
 use Rattle.grid.specs.RowDoors.{row-cells-door}
-use Rattle.grid.specs.RowGeometry.{OnAxis, LiesIn, row-count, row-cell, row-of}
+use Rattle.grid.specs.RowGeometry.{OnAxis, LiesIn, row-count, row-of}
 use Rattle.grid.specs.Rows.{records}
 use Rattle.grid.proofs.RowCells.{row-lies}
 use Rattle.grid.proofs.Rows.{row-cells-are, grid-row-done}

@@ -12,7 +12,7 @@ use Rattle.grid.specs.declared.cell.Cell.{Cell}
 use Rattle.grid.specs.declared.refusal.Refusal.{Refusal}
 use Rattle.grid.specs.declared.sizes.Sizes.{Sizes}
 use Rattle.grid.specs.Geometry.{Place, cell-count, cell-number}
-use Rattle.grid.specs.Cells.{Marks, cell-at, painted}
+use Rattle.grid.specs.Cells.{cell-at, painted}
 use Rattle.grid.specs.Distance.{Near}
 use Rattle.grid.specs.Doors.{Admits}
 use Rattle.grid.specs.Rows.{GridRowDone}

@@ -17,7 +17,7 @@ use Rattle.grid.specs.Cells.{Marks}
 use Rattle.grid.specs.Doors.{unless}
 use Rattle.grid.specs.RowDoors.{all-places, row-below}
 use Rattle.grid.specs.Rows.{records}
-use Rattle.job.specs.Cells.{Levels, marks-in, levels-in}
+use Rattle.job.specs.Cells.{Levels, levels-in}
 use lib.Dec.{leb}
 
 -- whether one of the first n places passes a test

@@ -1,6 +1,4 @@
-ghost use mathlib.Core.Path.{_≡_};
 ghost use mathlib.Core.Bool.{true, false};
-ghost use Prim.Native.Nat.{ℕ};
 ghost use Rattle.job.specs.Cells.{marks-in};
 ghost use Rattle.job.specs.Changes.{Paints, Loads};
 ghost use Rattle.job.specs.Doors.{lent, start-door};

@@ -2,7 +2,7 @@
 use mathlib.Core.Path.{_≡_, refl, sym, ap, subst, _∙_}
 use mathlib.Core.Bool.{Bool, false}
 use mathlib.Core.List.{List, [], _∷_, _++_}
-use Prim.Native.Nat.{ℕ, zero, suc, _+_, _≤_, _<_}
+use Prim.Native.Nat.{ℕ, _+_, _≤_, _<_}
 use native.Mathlib.Omega.{arith}
 use lib.ListN.{length, getD, set, take}
 use Rattle.std.proofs.shelf.Lists.{take-more, take-more-set, take-all}
@@ -10,20 +10,25 @@ use Rattle.std.specs.declared.option.Option.the-variants.{None}
 use Rattle.grid.specs.declared.cell.Cell.{Cell}
 use Rattle.grid.specs.declared.sizes.Sizes.{Sizes}
 use Rattle.grid.specs.Geometry.{Place, cell-count}
-use Rattle.grid.specs.Cells.{AllHold}
+use Rattle.grid.specs.Cells.{AllHold, FinishedField, cell-at}
 use Rattle.grid.specs.Distance.{Near}
+use Rattle.fields.proofs.Least.{value-is-least}
 use Rattle.fields.proofs.Painting.{painted-holds}
+use Rattle.fields.proofs.Agreement.{fields-agree}
 use Rattle.job.specs.declared.states.Painting.{Painting}
 use Rattle.job.specs.Cells.{marks-in, painted-cells}
 use Rattle.job.specs.Doors.{begin-door}
 use Rattle.job.specs.Moves.{IsPainting}
 use Rattle.replay.specs.declared.calls.Answer.{Answer}
 use Rattle.replay.specs.declared.calls.Call.{Call}
+use Rattle.replay.specs.declared.jobs.Unplayed.{Unplayed}
+use Rattle.std.specs.declared.result.Result.{Result}
+use Rattle.std.specs.declared.result.Result.the-variants.{Ok, Err}
 use Rattle.replay.specs.declared.jobs.Job.{Job}
 use Rattle.replay.specs.declared.jobs.Job.the-variants as job
-use Rattle.replay.specs.Book.{Book, step, turned, after, opened, book-after}
-use Rattle.replay.specs.Jobs.{rule-of, sizes-of, shown, Sound}
-use Rattle.replay.specs.Runs.{Ran, begun, called, Told, Called, Played}
+use Rattle.replay.specs.Book.{finished, Book, step, turned, after, opened, book-after}
+use Rattle.replay.specs.Jobs.{rule-of, sizes-of, stage-of, shown, Sound}
+use Rattle.replay.specs.Runs.{Ran, begun, called, Told, Called, Played, Replays, OneOutcome}
 use Rattle.replay.proofs.Painted.{marks-painted, painted-all, levels-0}
 use Rattle.replay.proofs.Turns.{same-book}
 
@@ -32,6 +37,12 @@ pub sound-holds : {R : Type 0} (near : Near) (j : Job R) (cells : List Cell) →
 sound-holds near (job.Painting p) cells h = painted-holds near (p .space .sizes) (marks-in cells) cells h .all-hold
 sound-holds near (job.Working w) cells h = h
 sound-holds near (job.Finished f) cells h = h .all-hold
+
+-- and at the end they are a finished field
+pub sound-finished : {R : Type 0} (near : Near) (j : Job R) (cells : List Cell) → stage-of j ≡ finished → Sound near j cells → FinishedField near (sizes-of j) (marks-in cells) cells
+sound-finished near (job.Painting p) cells e h = let z : _≡_ {A = ℕ} 0 1 = cc in absurd (omega arith)
+sound-finished near (job.Working w) cells e h = let z : _≡_ {A = ℕ} 0 1 = cc in absurd (omega arith)
+sound-finished near (job.Finished f) cells e h = h
 
 module _ {P : Type 0} (extent : P → Sizes) (marks : P → Place → Bool) where
   -- the book after one more call
@@ -108,7 +119,10 @@ module _ {R P : Type 0} (extent : P → Sizes) (marks : P → Place → Bool) (n
         as-booked = booked;
         same-rule = h .same-rule;
         all-hold = subst (λ (b : Book). AllHold (near rule) s (b .marked) cells) booked (subst (λ x. AllHold (near rule) x (marks-in cells) cells) (h .same-sizes) hold);
-        sound = h .sound;
+        finished-field = λ at-end.
+            let field = sound-finished (near rule) j cells (ap (λ (b : Book). b .stage) booked ∙ at-end) (h .sound) in
+            let whole = subst (λ (b : Book). FinishedField (near rule) s (b .marked) cells) booked (subst (λ x. FinishedField (near rule) x (marks-in cells) cells) (h .same-sizes) field) in
+            record { field = whole; least = λ k b. value-is-least (near rule) s (book-after extent marks s calls .marked) k (cell-at cells k) (whole .all-hold .each k b) (whole .all-at-3 k b) };
       }
 
   -- the same over the rule and the sizes that the job held at its beginning
@@ -119,3 +133,14 @@ module _ {R P : Type 0} (extent : P → Sizes) (marks : P → Place → Bool) (n
       ends before answers i j cells door long done
       (subst (λ x. Going extent marks near rule x calls answers i j cells) (is .same-sizes)
       (subst (λ r. Going extent marks near r (p .space .sizes) calls answers i j cells) (is .same-rule) h))
+
+-- two runs that have finished with the same marks agree
+pub one-outcome : {R P Q : Type 0} (extent : P → Sizes) (marks : P → Place → Bool) (extent′ : Q → Sizes) (marks′ : Q → Place → Bool) (near : Near) (rule : R) (s : Sizes) (calls : List (Call P)) (calls′ : List (Call Q))
+    → (r r′ : Result (Job R) (Unplayed R)) (slots answers slots′ answers′ : List Answer) (before cells before′ cells′ : List Cell)
+    → Replays extent marks near rule s calls r slots answers before cells → Replays extent′ marks′ near rule s calls′ r′ slots′ answers′ before′ cells′
+    → OneOutcome r r′ s (book-after extent marks s calls) (book-after extent′ marks′ s calls′) cells cells′
+one-outcome extent marks extent′ marks′ near rule s calls calls′ (Ok j) (Ok i) slots answers slots′ answers′ before cells before′ cells′ one two = λ end end′ same.
+    fields-agree near s (book-after extent marks s calls .marked) (book-after extent′ marks′ s calls′ .marked) same cells cells′ (one .1 .finished-field end .field) (two .1 .finished-field end′ .field)
+one-outcome extent marks extent′ marks′ near rule s calls calls′ (Ok j) (Err e) slots answers slots′ answers′ before cells before′ cells′ one two = tt
+one-outcome extent marks extent′ marks′ near rule s calls calls′ (Err e) (Ok i) slots answers slots′ answers′ before cells before′ cells′ one two = tt
+one-outcome extent marks extent′ marks′ near rule s calls calls′ (Err e) (Err f) slots answers slots′ answers′ before cells before′ cells′ one two = tt

@@ -1,18 +1,18 @@
 -- What the marks and levels of cells come to when cells are painted.
 use mathlib.Core.Path.{_≡_, refl, sym, ap, subst, fun-ext, _∙_}
-use mathlib.Core.Bool.{Bool, true, false, cond}
+use mathlib.Core.Bool.{Bool, false}
 use mathlib.Core.List.{List}
-use mathlib.Core.Logic.{_⊎_, inl, inr, ⊎-elim}
+use mathlib.Core.Logic.{_⊎_, ⊎-elim}
 use Prim.Native.Nat.{ℕ, _≤_, _<_}
 use native.Mathlib.Omega.{arith}
 use lib.Dec.{eqb}
 use lib.ListN.{length, set}
 use Rattle.std.proofs.shelf.Lists.{getD-set-same, getD-set-other, getD-past, length-set}
 use Rattle.std.proofs.shelf.Counted.{getD-map-counting, length-map-counting}
-use Rattle.std.proofs.shelf.Tests.{cases-lt, cases-eq, cases-bool, both-ways, cond-true, cond-false, eq-eqb, ne-eqb}
+use Rattle.std.proofs.shelf.Tests.{cases-lt, cases-eq, cases-bool, cond-true, cond-false, eq-eqb, ne-eqb}
 use Rattle.grid.specs.declared.cell.Cell.{Cell}
 use Rattle.grid.specs.declared.sizes.Sizes.{Sizes}
-use Rattle.grid.specs.Geometry.{Place, IsGrid, cell-count, inside, place-of, cell-number}
+use Rattle.grid.specs.Geometry.{Place, cell-count, inside, place-of}
 use Rattle.grid.specs.Cells.{Marks, cell-at, no-cell, painted}
 use Rattle.grid.proofs.Places.{number-inside, number-back}
 use Rattle.pictures.specs.Numbered.{marks-by-number}

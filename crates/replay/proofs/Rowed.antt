@@ -1,20 +1,18 @@
 -- What the marks and levels of cells come to when a row is worked, and the questions of a row.
 use mathlib.Core.Path.{_≡_, refl, sym, ap, subst, fun-ext, _∙_}
-use mathlib.Core.Bool.{Bool, true, false, cond}
+use mathlib.Core.Bool.{Bool, true, false}
 use mathlib.Core.List.{List}
-use mathlib.Core.Logic.{_⊎_, inl, inr, ⊎-elim}
-use Prim.Native.Nat.{ℕ, zero, suc, _-_, _≤_, _<_}
+use mathlib.Core.Logic.{_⊎_, ⊎-elim}
+use Prim.Native.Nat.{ℕ, zero, suc, _-_, _<_}
 use native.Mathlib.Omega.{arith}
 use lib.Dec.{eqb, ltb}
-use lib.ListN.{length}
-use Rattle.std.proofs.shelf.Tests.{cases-bool, cases-eq, eq-eqb, cond-true, cond-false, eqb-true, eqb-false, ltb-true, or-cases, or-parts, both-ways}
-use Rattle.std.specs.declared.option.Option.{Option}
+use Rattle.std.proofs.shelf.Tests.{cases-bool, cases-eq, eq-eqb, cond-true, cond-false, eqb-true, ltb-true, or-cases, or-parts, both-ways}
 use Rattle.std.specs.declared.option.Option.the-variants.{Some, None}
 use Rattle.grid.specs.declared.cell.Cell.{Cell}
 use Rattle.grid.specs.declared.refusal.Refusal.the-variants as refusal
 use Rattle.grid.specs.declared.sizes.Sizes.{Sizes}
-use Rattle.grid.specs.Geometry.{IsGrid, axis-size, cell-count}
-use Rattle.grid.specs.Cells.{Marks, AllHold, cell-at}
+use Rattle.grid.specs.Geometry.{IsGrid, axis-size}
+use Rattle.grid.specs.Cells.{AllHold, cell-at}
 use Rattle.grid.specs.Distance.{Near}
 use Rattle.grid.specs.Doors.{unless}
 use Rattle.grid.specs.RowDoors.{all-places, row-below}

@@ -3,7 +3,7 @@ use mathlib.Core.Path.{_≡_, refl, sym, ap, subst, _∙_}
 use mathlib.Core.Bool.{Bool, true, false}
 use mathlib.Core.List.{List}
 use mathlib.Core.Logic.{⊎-elim}
-use Prim.Native.Nat.{ℕ, _+_, _-_, _≤_, _<_}
+use Prim.Native.Nat.{ℕ, _+_, _-_, _<_}
 use native.Mathlib.Omega.{arith}
 use lib.Dec.{eqb, leb, ltb}
 use lib.ListN.{length}
@@ -16,10 +16,10 @@ use Rattle.grid.specs.declared.refusal.Refusal.the-variants as refusal
 use Rattle.grid.specs.declared.sizes.Sizes.{Sizes}
 use Rattle.grid.specs.Geometry.{Place, IsGrid, axis-size, cell-count, inside, place-of, cell-number, sizes-fit}
 use Rattle.grid.specs.Grids.{sizes-to-test}
-use Rattle.grid.specs.Cells.{Marks, AllHold, AllAt, FinishedField}
+use Rattle.grid.specs.Cells.{AllHold, AllAt, FinishedField}
 use Rattle.grid.specs.Distance.{Near}
 use Rattle.grid.specs.RowDoors.{all-places}
-use Rattle.grid.specs.RowGeometry.{OnAxis, HasRow, row-count, row-cell}
+use Rattle.grid.specs.RowGeometry.{OnAxis, row-count, row-cell}
 use Rattle.grid.specs.Rows.{GridRowDone, records}
 use Rattle.grid.proofs.Places.{number-inside, place-back, place-inside}
 use Rattle.grid.proofs.RowDoors.{all-places-from, stands-from}
@@ -35,7 +35,7 @@ use Rattle.job.specs.declared.states.Finished.{Finished}
 use Rattle.job.specs.declared.states.Painting.{Painting}
 use Rattle.job.specs.declared.states.Working.{Working}
 use Rattle.job.specs.Cells.{marks-in, levels-in, painted-cells}
-use Rattle.job.specs.Doors.{begin-door, lent, start-door, row-door, raise-door, lent-row-door, some-place}
+use Rattle.job.specs.Doors.{begin-door, lent, start-door, raise-door, lent-row-door, some-place}
 use Rattle.job.specs.Moves.{IsPainting, IsWorking, IsFinished}
 use Rattle.job.proofs.RowWork.{lent-open}
 use Rattle.job.proofs.Writing.{some-place-at}

@@ -44,8 +44,8 @@ use Rattle.replay.specs.declared.calls.Call.{Call}
 use Rattle.replay.specs.declared.calls.Call.the-variants as call
 use Rattle.replay.specs.declared.jobs.Job.{Job}
 use Rattle.replay.specs.declared.jobs.Job.the-variants as job
-use Rattle.replay.specs.Book.{Stage, painting, working, finished, Book, Outcome, accepted, behind, step, above, with-mark, with-marks, with-row, at-stage, reopened}
-use Rattle.replay.specs.Jobs.{raised-job, rule-of, sizes-of, stage-of, shown, Sound, SoundAt}
+use Rattle.replay.specs.Book.{Stage, painting, working, finished, Book, accepted, behind, step, above, with-mark, with-marks, with-row, at-stage, reopened}
+use Rattle.replay.specs.Jobs.{raised-job, rule-of, sizes-of, shown, Sound}
 use Rattle.replay.specs.Runs.{Called, Accepted, CellPainted}
 use Rattle.replay.proofs.Painted.{marks-past, marks-set, levels-set, painted-set, level-0, levels-0, marks-painted, painted-all, picture-past}
 use Rattle.replay.proofs.Rowed.{marks-rowed, levels-rowed, row-has, row-stood, no-value-refused}

@@ -3,7 +3,7 @@
 -- nothing. The book asks no question about the cells that are lent, nor about values: it never answers 3 or 9.
 use mathlib.Core.Bool.{Bool, false, cond, true}
 use mathlib.Core.List.{List, [], _∷_}
-use Prim.Native.Nat.{ℕ, zero, suc, _+_}
+use Prim.Native.Nat.{ℕ, _+_}
 use lib.Dec.{eqb, ltb}
 use Rattle.std.specs.declared.option.Option.{Option}
 use Rattle.std.specs.declared.option.Option.the-variants.{Some, None}

@@ -2,19 +2,20 @@
 use mathlib.Core.Bool.{Bool, true, false}
 use mathlib.Core.List.{List, [], _∷_, _++_}
 use mathlib.Core.Path.{_≡_}
-use Prim.Native.Nat.{ℕ}
+use Prim.Native.Nat.{ℕ, _<_}
 use lib.ListN.{length, set}
 use Rattle.std.specs.declared.option.Option.the-variants.{Some, None}
 use Rattle.std.specs.declared.result.Result.{Result}
 use Rattle.std.specs.declared.result.Result.the-variants.{Ok, Err}
 use Rattle.grid.specs.declared.cell.Cell.{Cell}
-use Rattle.grid.specs.declared.refusal.Refusal.{Refusal}
 use Rattle.grid.specs.declared.sizes.Sizes.{Sizes}
 use Rattle.grid.specs.Geometry.{Place, cell-count, cell-number}
-use Rattle.grid.specs.Cells.{AllHold, cell-at, painted}
+use Rattle.grid.specs.Cells.{Marks, AllHold, FinishedField, cell-at, painted}
 use Rattle.grid.specs.Distance.{Near}
 use Rattle.grid.specs.Rows.{GridRowDone}
 use Rattle.pictures.specs.Numbered.{marks-by-number}
+use Rattle.fields.specs.Agreement.{SameMarks, FieldsAgree}
+use Rattle.fields.specs.Least.{Tells, least-distance}
 use Rattle.job.specs.Cells.{held, marks-in, painted-cells}
 use Rattle.job.specs.Doors.{begin-door}
 use Rattle.replay.specs.declared.calls.Answer.{Answer}
@@ -72,14 +73,20 @@ module _ {P : Type 0} (extent : P → Sizes) (marks : P → Place → Bool) (nea
     pub same-sizes : sizes-of j′ ≡ sizes-of j
     pub sound : Sound near j′ after
 
-  -- a whole list, from the beginning on
+  -- at the end every value is the least distance to a marked cell of the whole grid
+  pub record LeastField (s : Sizes) (at : Marks) (cells : List Cell) : Type 0 where
+    pub field : FinishedField near s at cells
+    pub least : (k : ℕ) → k < cell-count s → Tells (least-distance near s at k) (cell-at cells k)
+
+  -- a whole list, from the beginning on: the answers, the job and the cells go as the book says, and every cell holds a
+  -- nearest mark of its slab
   pub record Played {R : Type 0} (rule : R) (s : Sizes) (calls : List (Call P)) (j : Job R) (answers : List Answer) (before after : List Cell) : Type 0 where
     pub begun : begin-door s before ≡ None
     pub ran : Ran s calls answers after
     pub as-booked : shown j after ≡ book-after extent marks s calls
     pub same-rule : rule-of j ≡ rule
     pub all-hold : AllHold near s (book-after extent marks s calls .marked) after
-    pub sound : Sound near j after
+    pub finished-field : book-after extent marks s calls .stage ≡ finished → LeastField s (book-after extent marks s calls .marked) after
 
   -- what a replay hands back: the job after the list; or why there was none, and then nothing has changed
   abbrev pub Replays : {R : Type 0} → R → Sizes → List (Call P) → Result (Job R) (Unplayed R) → List Answer → List Answer → List Cell → List Cell → Type 0
@@ -88,3 +95,12 @@ module _ {P : Type 0} (extent : P → Sizes) (marks : P → Place → Bool) (nea
       (length slots ≡ length calls → ⊥) × (r ≡ rule) × (answers ≡ slots) × (after ≡ before)
   Replays rule s calls (Err (unplayed.Begin kept)) slots answers before after =
       (length slots ≡ length calls) × (begin-door s before ≡ Some (kept .refusal)) × (kept .state ≡ rule) × (answers ≡ slots) × (after ≡ before)
+
+-- two jobs of the sizes s and one rule, whatever lists led to them: where both have finished with the same marks, every
+-- cell has the same value in both, and a point in both or in neither
+abbrev pub OneOutcome : {R : Type 0} → Result (Job R) (Unplayed R) → Result (Job R) (Unplayed R) → Sizes → Book → Book → List Cell → List Cell → Type 0
+OneOutcome (Ok j) (Ok i) s one two cells others =
+    one .stage ≡ finished → two .stage ≡ finished → SameMarks s (one .marked) (two .marked) → FieldsAgree s cells others
+OneOutcome (Ok j) (Err e) s one two cells others = Unit {0}
+OneOutcome (Err e) (Ok i) s one two cells others = Unit {0}
+OneOutcome (Err e) (Err f) s one two cells others = Unit {0}

@@ -13,4 +13,5 @@ pub use calls::Call;
 pub use jobs::Job;
 pub use jobs::Unplayed;
 pub use replaying::replay;
+pub use replaying::replay_both;
 pub use whole::find_field;

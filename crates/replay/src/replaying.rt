@@ -1,5 +1,5 @@
-ghost use mathlib.Core.Path.{_≡_};
-ghost use Rattle.replay.specs.Runs.{Replays};
+ghost use Rattle.replay.specs.Runs.{Replays, OneOutcome};
+ghost use Rattle.replay.specs.Book.{book-after};
 use crate::calls::Answer;
 use crate::calls::Call;
 use crate::jobs::Job;
@@ -39,4 +39,26 @@ pub fn replay<R: Rule, P: Picture>(
         answers[i] = answer;
     }
     Ok(job)
+}
+
+/// Replays two lists of calls, each on cells of its own, under one rule and on one grid.
+///
+/// Whatever the lists are: where both jobs end finished with the same marks, every cell has the same value in both.
+pub fn replay_both<R: Rule + Copy, P: Picture, Q: Picture>(
+    rule: R,
+    sizes: Sizes,
+    cells: &mut [Cell],
+    calls: &[Call<P>],
+    answers: &mut [Answer],
+    other_cells: &mut [Cell],
+    other_calls: &[Call<Q>],
+    other_answers: &mut [Answer],
+) -> (Result<Job<R>, Unplayed<R>>, Result<Job<R>, Unplayed<R>>)
+    ensures first { λ r. ⌜ Replays (P·Picture .extent) (P·Picture .marks) (near rule) rule sizes (now (calls .entry)) (r .0) (now (answers .entry)) (now (answers .exit)) (now (cells .entry)) (now (cells .exit)) ⌝ }
+    ensures second { λ r. ⌜ Replays (Q·Picture .extent) (Q·Picture .marks) (near rule) rule sizes (now («other_calls» .entry)) (r .1) (now («other_answers» .entry)) (now («other_answers» .exit)) (now («other_cells» .entry)) (now («other_cells» .exit)) ⌝ }
+    ensures outcome { λ r. ⌜ OneOutcome (r .0) (r .1) sizes (book-after (P·Picture .extent) (P·Picture .marks) sizes (now (calls .entry))) (book-after (Q·Picture .extent) (Q·Picture .marks) sizes (now («other_calls» .entry))) (now (cells .exit)) (now («other_cells» .exit)) ⌝ }
+{
+    let first = replay(rule, sizes, cells, calls, answers);
+    let second = replay(rule, sizes, other_cells, other_calls, other_answers);
+    (first, second)
 }

@@ -1,9 +1,6 @@
 //! One call on a job at any stage.
 ghost use mathlib.Core.Path.{_≡_};
-ghost use mathlib.Core.Bool.{Bool, true, false};
-ghost use lib.ListN.{length};
 ghost use Rattle.std.specs.Results.{Cases};
-ghost use Rattle.grid.specs.Geometry.{cell-count};
 ghost use Rattle.replay.specs.Book.{step};
 ghost use Rattle.replay.specs.Jobs.{raised-job, rule-of, shown, Sound};
 ghost use Rattle.replay.specs.Runs.{Called};

@@ -1,13 +1,13 @@
 //! The whole field of a picture.
 ghost use mathlib.Core.Path.{_≡_};
-ghost use Prim.Native.Nat.{ℕ, _-_};
+ghost use Prim.Native.Nat.{_-_};
 ghost use lib.ListN.{length};
 ghost use Rattle.std.specs.declared.option.Option.the-variants.{None};
 ghost use Rattle.grid.specs.Geometry.{cell-count};
 ghost use Rattle.pictures.specs.Numbered.{marks-by-number};
 ghost use Rattle.fields.specs.Painting.{FieldAt};
-ghost use Rattle.job.specs.Cells.{marks-in, levels-in, painted-cells};
-ghost use Rattle.job.specs.Doors.{start-door, raise-door};
+ghost use Rattle.job.specs.Cells.{marks-in, painted-cells};
+ghost use Rattle.job.specs.Doors.{start-door};
 ghost use Rattle.job.specs.Moves.{IsPainting, IsWorking, Rises};
 ghost use Rattle.replay.specs.Whole.{AllDone, AxisDone, FindsField};
 use grid::Cell;

@@ -1,4 +1,4 @@
-use mathlib.Core.Path.{_≡_, sym, subst}
+use mathlib.Core.Path.{sym, subst}
 use native.Mathlib.Omega.{arith}
 use Rattle.replay.specs.Jobs.{Sound}
 use Rattle.replay.proofs.Going.{going-none, going-more, played}

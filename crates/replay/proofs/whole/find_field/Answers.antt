@@ -1,8 +1,6 @@
-use mathlib.Core.Path.{_≡_, refl, ap, _∙_}
-use lib.ListN.{length}
+use mathlib.Core.Path.{refl, ap, _∙_}
 use Rattle.std.proofs.shelf.Tests.{both-ways}
 use Rattle.grid.specs.Geometry.{cell-count}
-use Rattle.job.specs.Moves.{IsWorking}
 use Rattle.replay.proofs.Sweep.{loaded-long, loaded-start, loaded-field, loaded-done, field-open, field-unmarked, same-start}
 use Rattle.replay.proofs.whole.find_field.Needs as need
 

@@ -1,4 +1,3 @@
-use native.Mathlib.Omega.{arith}
 use Rattle.replay.proofs.Sweep.{climb-none, climb-more, climb-all}
 use Rattle.replay.proofs.whole.finish.Needs as need
 

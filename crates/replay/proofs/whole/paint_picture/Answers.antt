@@ -1,5 +1,4 @@
-use mathlib.Core.Path.{_≡_, sym, subst, ap, _∙_}
-use lib.ListN.{length}
+use mathlib.Core.Path.{sym, subst, ap, _∙_}
 use Rattle.grid.specs.Geometry.{IsGrid, cell-count}
 use Rattle.replay.proofs.Sweep.{never-refused, begin-open}
 use Rattle.replay.proofs.whole.paint_picture.Needs as need

@@ -1,9 +1,7 @@
 use borrow.Author.Needs.{needs}
-use mathlib.Core.Path.{_≡_, sym}
+use mathlib.Core.Path.{_≡_}
 use Prim.Native.Nat.{_<_}
 use lib.ListN.{length}
-use native.Mathlib.Omega.{arith}
-use Rattle.std.proofs.shelf.Tests.{eqb-true}
 use Rattle.grid.specs.Geometry.{cell-count}
 use Rattle.grid.specs.RowGeometry.{row-count}
 use Rattle.job.proofs.RowWork.{lies, works-row}
