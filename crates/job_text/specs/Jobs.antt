@@ -6,6 +6,7 @@ use Prim.Native.Nat.{ℕ, _≤_, _<_}
 use lib.Chars.{codes}
 use lib.ListN.{length}
 use Rattle.numerals.specs.Numerals.{numeral}
+use Rattle.rules.specs.Ranges.{IsSpacing}
 use Rattle.job_text.specs.Lines.{line-of}
 use Rattle.job_text.specs.declared.columns.Column.{Column}
 use Rattle.job_text.specs.declared.columns.Column.the-variants.{Rule, Sx, Sy, Sz}
@@ -51,12 +52,12 @@ value-text s Sx = numeral (s .sx)
 value-text s Sy = numeral (s .sy)
 value-text s Sz = numeral (s .sz)
 
--- a spacing is from 1 to 10,000
+-- a spacing is one that an axis can have
 abbrev pub ValueFits : Settings → Column → Type 0
 ValueFits s Rule = Unit {0}
-ValueFits s Sx = (1 ≤ s .sx) × (s .sx ≤ 10000)
-ValueFits s Sy = (1 ≤ s .sy) × (s .sy ≤ 10000)
-ValueFits s Sz = (1 ≤ s .sz) × (s .sz ≤ 10000)
+ValueFits s Sx = IsSpacing (s .sx)
+ValueFits s Sy = IsSpacing (s .sy)
+ValueFits s Sz = IsSpacing (s .sz)
 
 -- the text is the line of the values in this order, and the rest
 pub record Values (text : List ℕ) (o : Order) (s : Settings) (rest : List ℕ) : Type 0 where

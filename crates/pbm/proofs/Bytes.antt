@@ -2,8 +2,8 @@
 use Prim.Native.Nat.{ℕ, zero, suc, _+_, _-_, _*_, _/_, _<_}
 use native.Mathlib.Omega.{arith}
 use native.Mathlib.Nat.{zero-mul, suc-mul, mul-comm}
-use mathlib.Core.Path.{_≡_, refl, sym, ap, fun-ext, _∙_}
-use mathlib.Core.Bool.{Bool, true, false, _&&_}
+use mathlib.Core.Path.{_≡_, sym, ap, fun-ext, _∙_}
+use mathlib.Core.Bool.{Bool, true, _&&_}
 use mathlib.Core.Logic.{⊎-elim}
 use mathlib.Core.List.{List, [], _∷_, _++_}
 use denote.Ref.{now}
@@ -16,6 +16,7 @@ use Rattle.grid.specs.declared.sizes.Sizes.{Sizes}
 use Rattle.grid.specs.Geometry.{Place, inside}
 use Rattle.grid.specs.Grids.{as-grid-keeps-grids}
 use Rattle.grid.proofs.Places.{below-from-inside}
+use Rattle.pictures.proofs.Differing.{and-same}
 use Rattle.pbm.specs.Form.{header, raster-bytes, row-bytes, images-of, AllFull, IsStack}
 use Rattle.pbm.specs.Marks.{bit-is-set, raster-place, raster-cells, image-bytes, stack-cells, byte-at, bit-at, stack-extent, stack-marks}
 use Rattle.pbm.specs.Promises.{LiesOver, Shows}
@@ -51,11 +52,6 @@ raster-byte w h (raster ∷ rasters) (suc z) k all hz hk =
 below-from-product : (z n m L : ℕ) → 0 < L → z < n → n * L ≡ m * L → z < m
 below-from-product z n m L some l e =
     ⊎-elim (λ k. k) (λ k. absurd (omega (arith, mul-le m L z L k (omega arith), suc-mul z L, mul-le (suc z) L n L l (omega arith)))) (cases-lt z m)
-
--- what follows a test need only agree where it is true
-and-same : (a b c : Bool) → (a ≡ true → b ≡ c) → (a && b) ≡ (a && c)
-and-same true b c h = h refl
-and-same false b c h = refl
 
 -- the place of a cell's bit among all bytes
 abbrev place-of-byte : Sizes → Place → ℕ

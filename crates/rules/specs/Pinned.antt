@@ -4,7 +4,8 @@ use Prim.Native.Nat.{ℕ}
 use Rattle.std.specs.Numbers.{Checked}
 use Rattle.std.specs.declared.option.Option.{Option}
 use Rattle.grid.specs.Distance.{Near}
-use Rattle.rules.specs.Ranges.{OnAxis, Seen, Paired, IsCrossing, Answered}
+use Rattle.grid.specs.RowGeometry.{OnAxis}
+use Rattle.rules.specs.Ranges.{Seen, Paired, IsCrossing, Answered}
 
 pub record Pinned (ceiling : ℕ → ℕ) (near : Near) : Type 0 where
   pub one-ceiling : (d : ℕ) (p q : Option ℕ) → Checked p (OnAxis d) (ceiling d) → Checked q (OnAxis d) (ceiling d) → p ≡ q
