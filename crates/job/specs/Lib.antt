@@ -1,0 +1,4 @@
+pub mod Cells
+pub mod Doors
+pub mod Changes
+pub mod Moves

@@ -1,0 +1,5 @@
+pub mod Painted
+pub mod Rowed
+pub mod Turns
+pub mod Going
+pub mod Sweep

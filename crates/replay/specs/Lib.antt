@@ -1,0 +1,4 @@
+pub mod Book
+pub mod Jobs
+pub mod Runs
+pub mod Whole
