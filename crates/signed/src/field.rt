@@ -8,7 +8,6 @@ ghost use Rattle.pictures.specs.Numbered.{marks-by-number};
 ghost use Rattle.signed.specs.Fields.{SignedField, TurnedField, Fills};
 use crate::numbers::write_numbers;
 use crate::room::check_room;
-use exhaustive::search_field;
 use grid::Cell;
 use grid::Refusal;
 use pictures::HalfGrid;
@@ -16,6 +15,7 @@ use pictures::HalfGridPicture;
 use pictures::Negative;
 use pictures::NegativePicture;
 use pictures::Picture;
+use replay::find_field;
 use rules::Rule;
 
 /// Finds the field of a picture that has a mark, in one cell for each of the picture's.
@@ -24,8 +24,8 @@ fn find_whole<R: Rule + Drop, P: Picture>(rule: R, picture: &P, cells: &mut [Cel
     requires mark { ⌜ SomeMarked (extent (now picture)) (marks (now picture)) ⌝ }
     ensures { λ _. ⌜ FinishedField (near rule) (extent (now (picture .entry))) (marks-by-number (extent (now (picture .entry))) (marks (now (picture .entry)))) (now (cells .exit)) ⌝ }
 {
-    match search_field(&rule, picture, cells) {
-        Ok(()) => {}
+    match find_field(rule, picture, cells) {
+        Ok(_) => {}
         Err(_) => unreachable(),
     }
 }
@@ -64,5 +64,6 @@ pub fn signed_of_negative<P: Picture, R: Rule + Drop>(
     ensures turned { λ r. ⌜ Fills r (extent (now (picture .entry))) (marks (now (picture .entry))) (now (cells .entry)) (now (cells .exit)) (now (output .entry)) (now (output .exit)) (TurnedField (near rule) (extent (now (picture .entry))) (marks (now (picture .entry))) (now (cells .exit)) (now (output .exit))) ⌝ }
     ensures own { λ r. ⌜ Fills r (extent (now (picture .entry))) (negative-marks (extent (now (picture .entry))) (marks (now (picture .entry)))) (now (cells .entry)) (now (cells .exit)) (now (output .entry)) (now (output .exit)) (SignedField (near rule) (extent (now (picture .entry))) (negative-marks (extent (now (picture .entry))) (marks (now (picture .entry)))) (now (cells .exit)) (now (output .exit))) ⌝ }
 {
-    signed(&Negative::new(picture), rule, cells, output)
+    let negative = Negative::new(picture);
+    signed(&negative, rule, cells, output)
 }

@@ -14,5 +14,5 @@ returns g c =
     let output = c .signed .last .output in
     let r = c .signed .result in
     let own = subst (λ q. let s = g .P·Picture .extent q in let rest = negative-marks s (g .P·Picture .marks q) in Fills r s rest before cells old output (SignedField near s rest cells output))
-    (c .new .ensures .picture) (c .signed .ensures) in
+    (c .new-negative .ensures .picture) (c .signed .ensures) in
     record { turned = turned-fill near (g .P·Picture .extent p) (g .P·Picture .lawful .grid p) (g .P·Picture .marks p) r before cells old output own; own = own }
