@@ -1,0 +1,7 @@
+mod TwoKinds
+mod Opening
+mod Signs
+mod Faces
+mod Reading
+mod Turning
+mod Examples

@@ -1,0 +1,5 @@
+pub mod Distances
+pub mod Doors
+pub mod Fields
+pub mod Theorems
+pub mod Examples
