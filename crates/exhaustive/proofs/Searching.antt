@@ -9,17 +9,25 @@ use Rattle.std.specs.declared.option.Option.the-variants.{Some, None}
 use Rattle.std.proofs.shelf.Tests.{leb-true, leb-false}
 use native.Mathlib.Decide.{ℕ-discrete}
 use Rattle.grid.specs.declared.sizes.Sizes.{Sizes}
-use Rattle.grid.specs.Geometry.{cell-count}
+use Rattle.grid.specs.Geometry.{Place, cell-count, place-of}
 use Rattle.grid.specs.Distance.{Near, distance}
 use Rattle.grid.specs.Cells.{Marks, Marked, Answers}
+use Rattle.pictures.specs.Numbered.{marks-by-number}
 use Rattle.exhaustive.specs.Search.{Best, NearestBelow, nearer-of}
+
+-- what a picture tells of the place of a cell is the cell's mark
+pub mark-told : (marked : Place → Bool) (s : Sizes) (k : ℕ) (p : Place) (b : Bool) → p ≡ place-of s k → b ≡ marked p → b ≡ marks-by-number s marked k
+mark-told marked s k p b at told = told ∙ ap marked at
+
+pub told-mark : (marked : Place → Bool) (s : Sizes) (k : ℕ) (p : Place) (b : Bool) → p ≡ place-of s k → b ≡ marked p → marks-by-number s marked k ≡ b
+told-mark marked s k p b at told = sym (mark-told marked s k p b at told)
 
 module _ (near : Near) (s : Sizes) (marks : Marks) (k : ℕ) where
   pub none-yet : NearestBelow near s marks k 0 None
   none-yet q h m = omega arith
 
   -- a cell that is not marked changes nothing
-  pub past-unmarked : (n : ℕ) (best : Option (ℕ × ℕ)) → NearestBelow near s marks k n best → marks n ≡ false → NearestBelow near s marks k (n + 1) best
+  past-unmarked : (n : ℕ) (best : Option (ℕ × ℕ)) → NearestBelow near s marks k n best → marks n ≡ false → NearestBelow near s marks k (n + 1) best
   past-unmarked n None so-far un = λ q h m. elim (ℕ-discrete q n) [
     | yes e ↦ (let z : true ≡ false = sym m ∙ ap marks e ∙ un in let y : _≡_ {A = ℕ} 0 1 = cc in omega arith)
     | no ne ↦ so-far q (omega arith) m
@@ -49,7 +57,7 @@ module _ (near : Near) (s : Sizes) (marks : Marks) (k : ℕ) where
       }
 
   -- a marked cell is compared with the best so far
-  pub past-marked : (n v : ℕ) (best : Option (ℕ × ℕ)) → NearestBelow near s marks k n best → marks n ≡ true → v ≡ distance near s 3 k n
+  past-marked : (n v : ℕ) (best : Option (ℕ × ℕ)) → NearestBelow near s marks k n best → marks n ≡ true → v ≡ distance near s 3 k n
       → NearestBelow near s marks k (n + 1) (nearer-of best n v)
   past-marked n v None so-far m e = at-new n v m e (λ q h mq. absurd (so-far q h mq))
   past-marked n v (Some b) so-far m e = go (leb (b .1) v) refl
@@ -66,6 +74,14 @@ module _ (near : Near) (s : Sizes) (marks : Marks) (k : ℕ) where
             ];
           }
       go false h = at-new n v m e (λ q hq mq. omega (arith, leb-false (b .1) v h, so-far .none-nearer q hq mq))
+
+  -- the search goes on with what is kept of a marked cell, and as it was at an unmarked one
+  pub on-from-marked : (n v : ℕ) (best kept next : Option (ℕ × ℕ)) → NearestBelow near s marks k n best → marks n ≡ true → v ≡ distance near s 3 k n
+      → kept ≡ nearer-of best n v → next ≡ kept → NearestBelow near s marks k (n + 1) next
+  on-from-marked n v best kept next so-far m e is goes = subst (NearestBelow near s marks k (n + 1)) (sym (goes ∙ is)) (past-marked n v best so-far m e)
+
+  pub on-from-unmarked : (n : ℕ) (best next : Option (ℕ × ℕ)) → NearestBelow near s marks k n best → marks n ≡ false → next ≡ best → NearestBelow near s marks k (n + 1) next
+  on-from-unmarked n best next so-far un goes = subst (NearestBelow near s marks k (n + 1)) (sym goes) (past-unmarked n best so-far un)
 
   -- at level 3 the slab is the whole grid
   pub answers-none : NearestBelow near s marks k (cell-count s) None → Answers near s marks 3 k None 0

@@ -1,10 +1,10 @@
-use mathlib.Core.Path.{_≡_, sym, ap, subst, _∙_}
+use mathlib.Core.Path.{sym, subst}
 use Prim.Native.Nat.{ℕ, _≤_}
 use native.Mathlib.Omega.{arith}
 use Rattle.std.specs.declared.option.Option.{Option}
 use Rattle.grid.specs.Cells.{Answers}
 use Rattle.pictures.specs.Numbered.{marks-by-number}
-use Rattle.exhaustive.proofs.Searching.{answers-some, answers-none}
+use Rattle.exhaustive.proofs.Searching.{mark-told, answers-some, answers-none}
 use Rattle.exhaustive.proofs.field.finished_cell.Needs as need
 use Rattle.exhaustive.proofs.field.finished_cell.Needs.{in-Some, in-None}
 use mathlib.Core.Path.{refl}
@@ -22,7 +22,7 @@ returns g c =
     ] in
     record {
       holds = record {
-        mark = c .marked .ensures ∙ ap (g .P·Picture .marks (c .args .picture .now)) (c .place-in .ensures);
+        mark = mark-told (g .P·Picture .marks (c .args .picture .now)) s (c .args .at) (c .place-in .result) (c .marked .result) (c .place-in .ensures) (c .marked .ensures);
         level-at-most-3 = omega arith;
         nearest = right;
       };

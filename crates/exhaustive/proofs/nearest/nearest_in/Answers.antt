@@ -1,10 +1,11 @@
-use mathlib.Core.Path.{_≡_, sym, ap, subst, _∙_}
-use Prim.Native.Nat.{ℕ, _+_}
+use mathlib.Core.Path.{_≡_, subst}
+use mathlib.Core.Bool.{true, false}
+use Prim.Native.Nat.{ℕ}
 use native.Mathlib.Omega.{arith}
 use Rattle.grid.specs.Geometry.{cell-count}
 use Rattle.pictures.specs.Numbered.{marks-by-number}
 use Rattle.exhaustive.specs.Search.{NearestBelow}
-use Rattle.exhaustive.proofs.Searching.{past-marked, past-unmarked}
+use Rattle.exhaustive.proofs.Searching.{told-mark, on-from-marked, on-from-unmarked}
 use Rattle.exhaustive.proofs.nearest.nearest_in.Needs as need
 use Rattle.exhaustive.proofs.nearest.nearest_in.Needs.{then-marked, else-marked}
 
@@ -12,13 +13,14 @@ pub loop-from-again : need.loop-from-again
 loop-from-again g c =
     let near = g .R·Rule .near (c .args .rule .now) in
     let s = c .args .sizes in
-    let marks = marks-by-number s (g .P·Picture .marks (c .args .picture .now)) in
-    let here = ap (g .P·Picture .marks (c .args .picture .now)) (sym (c .place-in .ensures)) in
+    let marked = g .P·Picture .marks (c .args .picture .now) in
+    let marks = marks-by-number s marked in
+    let from = c .loop-from .from in
     elim (c .if-marked .came) [
-      | then-marked w ↦ subst (NearestBelow near s marks (c .args .at) (c .loop-from .from + 1)) (sym (w .best-is ∙ w .nearer-best .ensures))
-          (past-marked near s marks (c .args .at) (c .loop-from .from) (w .distance-in-value .result) (c .loop-from .best) (c .loop-from .inv) (here ∙ sym (w .if-marked .ensures tt)) (w .distance-in-value .ensures))
-      | else-marked w ↦ subst (NearestBelow near s marks (c .args .at) (c .loop-from .from + 1)) (sym (w .best-is))
-          (past-unmarked near s marks (c .args .at) (c .loop-from .from) (c .loop-from .best) (c .loop-from .inv) (here ∙ sym (w .if-marked .ensures tt)))
+      | then-marked w ↦ on-from-marked near s marks (c .args .at) from (w .distance-in-value .result) (c .loop-from .best) (w .nearer-best .result) (c .if-marked .best) (c .loop-from .inv)
+          (told-mark marked s from (c .place-in .result) true (c .place-in .ensures) (w .if-marked .ensures tt)) (w .distance-in-value .ensures) (w .nearer-best .ensures) (w .best-is)
+      | else-marked w ↦ on-from-unmarked near s marks (c .args .at) from (c .loop-from .best) (c .if-marked .best) (c .loop-from .inv)
+          (told-mark marked s from (c .place-in .result) false (c .place-in .ensures) (w .if-marked .ensures tt)) (w .best-is)
     ]
 
 pub returns : need.returns
