@@ -1,5 +1,7 @@
-use mathlib.Core.Path.{ap, _∙_}
+use mathlib.Core.Path.{_≡_, refl, ap}
+use native.Mathlib.Omega.{arith}
 use Rattle.grid.specs.Geometry.{cell-count}
+use Rattle.pictures.specs.Faces.{half-sizes}
 use Rattle.signed.proofs.TwoKinds.{both-kinds-answer}
 use Rattle.signed.proofs.Opening.{with-room}
 use Rattle.signed.proofs.room.check_room.Needs as need
@@ -8,16 +10,19 @@ pub returns-then-not-has-both-kinds : need.returns-then-not-has-both-kinds
 returns-then-not-has-both-kinds g c =
     let p = c .args .picture .now in
     let s = g .P·Picture .extent p in
-    let marks = g .P·Picture .marks p in
-    with-room s marks (c .args .cells) (c .args .numbers) (c .if-cells-half .left ∙ ap cell-count (c .pre .half)) (c .if-numbers-sizes .left ∙ ap cell-count (c .sizes-sizes .ensures)) _
-    (both-kinds-answer s (g .P·Picture .lawful .grid p) marks _ (c .if-not-has-both-kinds .ensures tt))
+    let cells : c .args .cells ≡ cell-count (half-sizes s) = omega (arith, ap cell-count (c .pre .half)) in
+    let numbers : c .args .numbers ≡ cell-count s = omega (arith, ap cell-count (c .sizes-sizes .ensures)) in
+    with-room s (g .P·Picture .marks p) (c .args .cells) (c .args .numbers) cells numbers _
+    (both-kinds-answer s (g .P·Picture .lawful .grid p) (g .P·Picture .marks p) _ (c .if-not-has-both-kinds .ensures tt))
 
 pub returns : need.returns
 returns g c =
     let p = c .args .picture .now in
     let s = g .P·Picture .extent p in
-    let marks = g .P·Picture .marks p in (
-      with-room s marks (c .args .cells) (c .args .numbers) (c .if-cells-half .left ∙ ap cell-count (c .pre .half)) (c .if-numbers-sizes .left ∙ ap cell-count (c .sizes-sizes .ensures)) _
-          (both-kinds-answer s (g .P·Picture .lawful .grid p) marks _ (c .if-not-has-both-kinds .ensures tt)),
-      c .has-both-kinds .ensures .0 (c .if-not-has-both-kinds .left),
+    let kinds = c .if-not-has-both-kinds .ensures tt in
+    let cells : c .args .cells ≡ cell-count (half-sizes s) = omega (arith, ap cell-count (c .pre .half)) in
+    let numbers : c .args .numbers ≡ cell-count s = omega (arith, ap cell-count (c .sizes-sizes .ensures)) in (
+      with-room s (g .P·Picture .marks p) (c .args .cells) (c .args .numbers) cells numbers _
+          (both-kinds-answer s (g .P·Picture .lawful .grid p) (g .P·Picture .marks p) _ kinds),
+      kinds .0 refl,
     )
