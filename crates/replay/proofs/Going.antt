@@ -114,7 +114,7 @@ module _ {R P : Type 0} (extent : P → Sizes) (marks : P → Place → Bool) (n
       let booked : shown j cells ≡ book-after extent marks s calls = h .as-booked ∙ ap (book-after extent marks s) all in
       let hold = sound-holds (near rule) j cells (h .sound) in
       record {
-        begun = door;
+        begin-accepted = door;
         ran = subst (λ x. Ran extent marks (near rule) s calls x cells) all-answers (subst (λ x. Ran extent marks (near rule) s x (take i answers) cells) all (h .ran));
         as-booked = booked;
         same-rule = h .same-rule;

@@ -81,7 +81,7 @@ module _ {P : Type 0} (extent : P → Sizes) (marks : P → Place → Bool) (nea
   -- a whole list, from the beginning on: the answers, the job and the cells go as the book says, and every cell holds a
   -- nearest mark of its slab
   pub record Played {R : Type 0} (rule : R) (s : Sizes) (calls : List (Call P)) (j : Job R) (answers : List Answer) (before after : List Cell) : Type 0 where
-    pub begun : begin-door s before ≡ None
+    pub begin-accepted : begin-door s before ≡ None
     pub ran : Ran s calls answers after
     pub as-booked : shown j after ≡ book-after extent marks s calls
     pub same-rule : rule-of j ≡ rule

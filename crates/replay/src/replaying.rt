@@ -13,6 +13,10 @@ use rules::Rule;
 
 /// Begins a job, makes the calls in their order, and writes down the answer of each.
 ///
+/// After any list of calls, refused ones among them: the answers, the stage, the marks and the levels are those of a book
+/// that is kept from the calls alone, an accepted look answered what its cell held then, and every cell holds a nearest
+/// mark of its slab and its distance, or none where the slab has no mark.
+///
 /// A call that the job's stage does not have is answered `Absent` and changes nothing. Nothing at all changes where there
 /// is not one slot for each answer, or where the job is refused at its beginning.
 pub fn replay<R: Rule, P: Picture>(
