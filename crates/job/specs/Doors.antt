@@ -3,7 +3,7 @@
 use mathlib.Core.Bool.{Bool, false, _&&_, _||_}
 use mathlib.Core.List.{List}
 use Prim.Native.Nat.{ℕ, zero, suc, _-_}
-use lib.Dec.{eqb, ltb}
+use lib.Dec.{eqb, leb, ltb}
 use lib.ListN.{length}
 use Rattle.std.specs.declared.option.Option.{Option}
 use Rattle.std.specs.declared.option.Option.the-variants.{None}
@@ -18,7 +18,6 @@ use Rattle.grid.specs.Doors.{unless}
 use Rattle.grid.specs.RowDoors.{all-places, row-below}
 use Rattle.grid.specs.Rows.{records}
 use Rattle.job.specs.Cells.{Levels, levels-in}
-use lib.Dec.{leb}
 
 -- whether one of the first n places passes a test
 abbrev pub some-place : ℕ → (ℕ → Bool) → Bool

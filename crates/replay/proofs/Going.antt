@@ -29,6 +29,7 @@ use Rattle.replay.specs.declared.jobs.Job.the-variants as job
 use Rattle.replay.specs.Book.{finished, Book, step, turned, after, opened, book-after}
 use Rattle.replay.specs.Jobs.{rule-of, sizes-of, stage-of, shown, Sound}
 use Rattle.replay.specs.Runs.{Ran, begun, called, Told, Called, Played, Replays, OneOutcome}
+use Rattle.replay.proofs.Own.{own-answers}
 use Rattle.replay.proofs.Painted.{marks-painted, painted-all, levels-0}
 use Rattle.replay.proofs.Turns.{same-book}
 
@@ -113,9 +114,12 @@ module _ {R P : Type 0} (extent : P → Sizes) (marks : P → Place → Bool) (n
       let all-answers = take-all i answers (omega arith) in
       let booked : shown j cells ≡ book-after extent marks s calls = h .as-booked ∙ ap (book-after extent marks s) all in
       let hold = sound-holds (near rule) j cells (h .sound) in
+      let whole-run : Ran extent marks (near rule) s calls answers cells =
+      subst (λ x. Ran extent marks (near rule) s calls x cells) all-answers (subst (λ x. Ran extent marks (near rule) s x (take i answers) cells) all (h .ran)) in
       record {
         begin-accepted = door;
-        ran = subst (λ x. Ran extent marks (near rule) s calls x cells) all-answers (subst (λ x. Ran extent marks (near rule) s x (take i answers) cells) all (h .ran));
+        ran = whole-run;
+        never-3-or-9 = own-answers extent marks (near rule) s calls answers cells whole-run;
         as-booked = booked;
         same-rule = h .same-rule;
         all-hold = subst (λ (b : Book). AllHold (near rule) s (b .marked) cells) booked (subst (λ x. AllHold (near rule) x (marks-in cells) cells) (h .same-sizes) hold);

@@ -3,12 +3,14 @@
 -- nothing. The book asks no question about the cells that are lent, nor about values: it never answers 3 or 9.
 use mathlib.Core.Bool.{Bool, false, cond, true}
 use mathlib.Core.List.{List, [], _∷_}
+use mathlib.Core.Logic.{_≢_}
 use Prim.Native.Nat.{ℕ, _+_}
 use lib.Dec.{eqb, ltb}
 use Rattle.std.specs.declared.option.Option.{Option}
 use Rattle.std.specs.declared.option.Option.the-variants.{Some, None}
 use Rattle.grid.specs.declared.refusal.Refusal.{Refusal}
 use Rattle.grid.specs.declared.sizes.Sizes.{Sizes}
+use Rattle.grid.specs.Refusals.{refusal-number}
 use Rattle.grid.specs.Geometry.{Place, axis-size, cell-number}
 use Rattle.grid.specs.RowGeometry.{row-cell}
 use Rattle.grid.specs.Cells.{Marks}
@@ -131,3 +133,8 @@ module _ {P : Type 0} (extent : P → Sizes) (marks : P → Place → Bool) wher
   -- the same from the beginning on
   abbrev pub book-after : Sizes → List (Call P) → Book
   book-after s calls = after (opened s) calls
+
+-- the refusals of the book: none for the number of cells (3) or for a value (9), which only cells from elsewhere meet
+pub record OfTheBook (e : Refusal) : Type 0 where
+  pub not-for-the-count : refusal-number e ≢ 3
+  pub not-for-a-value : refusal-number e ≢ 9

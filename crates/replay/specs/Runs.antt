@@ -4,6 +4,7 @@ use mathlib.Core.List.{List, [], _∷_, _++_}
 use mathlib.Core.Path.{_≡_}
 use Prim.Native.Nat.{ℕ, _<_}
 use lib.ListN.{length, set}
+use Rattle.std.specs.shelf.Lists.{All}
 use Rattle.std.specs.declared.option.Option.the-variants.{Some, None}
 use Rattle.std.specs.declared.result.Result.{Result}
 use Rattle.std.specs.declared.result.Result.the-variants.{Ok, Err}
@@ -25,7 +26,7 @@ use Rattle.replay.specs.declared.calls.Call.the-variants as call
 use Rattle.replay.specs.declared.jobs.Job.{Job}
 use Rattle.replay.specs.declared.jobs.Unplayed.{Unplayed}
 use Rattle.replay.specs.declared.jobs.Unplayed.the-variants as unplayed
-use Rattle.replay.specs.Book.{Stage, painting, working, finished, Book, Outcome, absent, refused, accepted, step, turned, book-after}
+use Rattle.replay.specs.Book.{Stage, painting, working, finished, Book, Outcome, absent, refused, accepted, step, turned, book-after, OfTheBook}
 use Rattle.replay.specs.Jobs.{rule-of, sizes-of, shown, Sound}
 
 -- the axis that is worked at a stage
@@ -37,6 +38,13 @@ axis-of finished = 0
 -- the record of the cell at a place is painted
 abbrev pub CellPainted : Sizes → Place → Bool → List Cell → List Cell → Type 0
 CellPainted s p mark before after = after ≡ set before (cell-number s p) (painted mark (cell-number s p))
+
+-- an answer that refuses does so with a refusal of the book
+abbrev pub AnswerOfTheBook : Answer → Type 0
+AnswerOfTheBook answer.Done = Unit {0}
+AnswerOfTheBook (answer.Held h) = Unit {0}
+AnswerOfTheBook (answer.Refused e) = OfTheBook e
+AnswerOfTheBook answer.Absent = Unit {0}
 
 module _ {P : Type 0} (marks : P → Place → Bool) (near : Near) where
   -- what an accepted call answers, and what the cells are after it
@@ -83,6 +91,7 @@ module _ {P : Type 0} (extent : P → Sizes) (marks : P → Place → Bool) (nea
   pub record Played {R : Type 0} (rule : R) (s : Sizes) (calls : List (Call P)) (j : Job R) (answers : List Answer) (before after : List Cell) : Type 0 where
     pub begin-accepted : begin-door s before ≡ None
     pub ran : Ran s calls answers after
+    pub never-3-or-9 : All AnswerOfTheBook answers
     pub as-booked : shown j after ≡ book-after extent marks s calls
     pub same-rule : rule-of j ≡ rule
     pub all-hold : AllHold near s (book-after extent marks s calls .marked) after
