@@ -1,4 +1,4 @@
--- A worked example, over the definitions that the contracts cite.
+-- The worked examples, over the definitions that the contracts cite.
 use mathlib.Core.Path.{_≡_}
 use mathlib.Core.Bool.{Bool, _&&_}
 use Prim.Native.Nat.{ℕ}
@@ -9,6 +9,7 @@ use Rattle.grid.specs.declared.sizes.Sizes.{Sizes}
 use Rattle.grid.specs.Geometry.{Place}
 use Rattle.grid.specs.Distance.{Near}
 use Rattle.rules.specs.declared.spacings.Spacings.{Spacings}
+use Rattle.rules.specs.Examples.{WorkedExamples}
 use Rattle.rules.specs.Formulas.{HasSpacings, square-near}
 use Rattle.signed.specs.Distances.{signed-distance}
 use Rattle.signed.specs.Doors.{signed-door}
@@ -34,3 +35,8 @@ pub record FourCells (near : Near) : Type 0 where
 pub record SignedExample : Type 0 where
   pub accepted : signed-door two-by-two first-cell 9 4 ≡ None
   pub numbers : (spacings : Spacings) → HasSpacings spacings 1 1 1 → FourCells (square-near spacings)
+
+-- all worked examples: the distances and crossings of the rules, and the signed field
+pub record AllExamples : Type 0 where
+  pub rules : WorkedExamples
+  pub signed-field : SignedExample

@@ -10,4 +10,4 @@ mod theorems;
 pub use field::signed;
 pub use field::signed_of_negative;
 pub use theorems::negative_turns_sign;
-pub use theorems::signed_example;
+pub use theorems::worked_examples;
