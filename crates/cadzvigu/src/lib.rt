@@ -1,5 +1,7 @@
 //! The library for C, C++ and Python: two exported functions over plain arrays. Each takes the sizes of a grid, a byte for each
 //! cell and arrays for the answers, and answers a status number. The memory for the cells is taken and given back inside.
+#![tactic(auto)]
+
 mod exports;
 mod fault;
 mod nearest;

@@ -1,5 +1,7 @@
 //! The distance field by an exhaustive search over all pairs of cells: slow, short and plain, so it serves as the
 //! measure for everything faster.
+#![tactic(auto)]
+
 mod field;
 mod nearest;
 

@@ -1,5 +1,7 @@
 //! What holds of whole fields, for every rule that shows the laws: painted records are right, each worked row keeps
 //! every record right, and the finished values depend on nothing but the rule, the sizes and the marks.
+#![tactic(auto)]
+
 mod theorems;
 
 pub use theorems::{

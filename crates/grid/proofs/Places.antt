@@ -1,5 +1,5 @@
 -- A cell's number and its places are inverse to one another.
-use Rattle.std.proofs.Common.{◌≡◌, ℕ, zero, suc, ◌+◌, ◌*◌, ◌/◌, ◌%◌, ◌<◌, ◌≤◌, true, ltb, sym, refl, ap, ◌∙◌, subst, mod-lt, mod-eq_of_lt, mul_assoc, mul-le-mul_left, mul-zero, zero-add, mul-one, mul-add, arith}
+use Rattle.std.proofs.Common.{◌≡◌, ℕ, zero, suc, ◌+◌, ◌*◌, ◌/◌, ◌%◌, ◌<◌, ◌≤◌, true, ltb, sym, ap, ◌∙◌, subst, mod-lt, mod-eq_of_lt, mul_assoc, mul-le-mul_left, mul-zero, zero-add, mul-one, mul-add, arith}
 use native.Mathlib.Nat.{add_right_comm, div-eq_of_lt, add-mul-mod_self_left, add-mul-div_left, div-div-eq-div-mul, mod-add-div}
 use Rattle.std.proofs.lemmas.Nat.{mul-add-lt, mul-le, div_below}
 use Rattle.std.proofs.lemmas.Bool.{and_parts, and_from, ltb-true, lt-ltb}

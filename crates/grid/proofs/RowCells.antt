@@ -3,8 +3,8 @@ use Rattle.std.proofs.Common.{◌≡◌, ℕ, zero, suc, ◌+◌, ◌-◌, ◌*�
 use native.Mathlib.Nat.{mod-add-div}
 use Rattle.std.proofs.lemmas.Nat.{div_below}
 use Rattle.grid.specs.declared.sizes.Sizes.{Sizes}
-use Rattle.grid.specs.Geometry.{IsGrid, IsSize, cell_count, axis_size, cell_number, place_on, place_of}
-use Rattle.grid.specs.RowGeometry.{OnAxis, row_count, row_cell, row_stride, row_start, row_of, row_at, LiesIn, RowsPart}
+use Rattle.grid.specs.Geometry.{IsGrid, IsSize, cell_count, axis_size, cell_number, place_on}
+use Rattle.grid.specs.RowGeometry.{OnAxis, row_count, row_cell, row_stride, row_of, row_at, LiesIn, RowsPart}
 use Rattle.grid.proofs.Places.{low_digit, high_digit, two_digits_below, place_x, place_y, place_z, number_below, number_back, place_below, layer_positive}
 
 module _ (s : Sizes) (grid : IsGrid s) where

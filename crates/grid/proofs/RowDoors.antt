@@ -1,9 +1,8 @@
 -- What the questions of a row tell.
-use Rattle.std.proofs.Common.{◌≡◌, ℕ, zero, suc, ◌<◌, ◌≤◌, Bool, true, false, ◌&&◌, eqb, leb, Some, None, Option, sym, refl, subst, ⊎_elim, arith}
+use Rattle.std.proofs.Common.{◌≡◌, ℕ, zero, suc, ◌<◌, Bool, true, false, eqb, leb, Some, None, sym, refl, subst, ⊎_elim, arith}
 use Rattle.std.proofs.lemmas.Bool.{cases_eq, cases_Bool, and_parts, and_from, eqb-true, eq-eqb, leb-true, le-leb}
 use Rattle.grid.specs.declared.cell.Cell.{Cell}
 use Rattle.grid.specs.declared.refusal.Refusal.TheVariants.{RowLevel, RowValue}
-use Rattle.grid.specs.Doors.{unless}
 use Rattle.grid.specs.Rows.{RowAt, RowBelow}
 use Rattle.grid.specs.RowDoors.{all_places, row_stands, row_below, row_cells_door}
 use Rattle.grid.proofs.Doors.{passed_yes, passed_rest}

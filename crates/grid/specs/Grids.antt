@@ -1,6 +1,6 @@
 -- The tests of a grid's sizes tell what they say. These facts stand here, and not with the proofs, since what a
 -- picture means rests on them: the sizes of every picture are those of a grid.
-use Rattle.std.specs.Prelude.{◌≡◌, ℕ, ◌≤◌, true, nat_le}
+use Rattle.std.specs.Prelude.{◌≡◌, ℕ, true, nat_le}
 use Rattle.std.proofs.Common.{arith}
 use Rattle.std.proofs.lemmas.Bool.{and_parts, and_from, leb-true, le-leb, cond_both, cond-true}
 use Rattle.grid.specs.declared.sizes.Sizes.{Sizes}

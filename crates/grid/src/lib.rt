@@ -1,5 +1,7 @@
 //! Grids of cells on three axes: sizes, places and cell numbers, the record that is kept of a cell,
 //! and the refusals that every call of the library answers with.
+#![tactic(auto)]
+
 mod cell;
 mod refusal;
 mod row;

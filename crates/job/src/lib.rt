@@ -2,6 +2,8 @@
 //!
 //! The states `Painting`, `Working` and `Finished` are moved from one to the next, so a call that a stage does not have
 //! does not compile. They hold the rule and numbers only, and each call is lent the cells.
+#![tactic(auto)]
+
 mod beginning;
 mod on_finished;
 mod on_painting;

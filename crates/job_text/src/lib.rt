@@ -1,4 +1,6 @@
 //! The two lines that stand before a stack of images in a job text: a line of column names, and a line of their values.
+#![tactic(auto)]
+
 mod columns;
 mod job;
 mod settings;

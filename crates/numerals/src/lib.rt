@@ -1,4 +1,6 @@
 //! Decimal numbers at the front of lent bytes, each closed by a byte of its own.
+#![tactic(auto)]
+
 mod numbers;
 
 pub use numbers::{Ending, after_prefix, read_number};

@@ -1,4 +1,6 @@
 //! Stacks of raw bit images (PBM), one image a layer, read as a picture.
+#![tactic(auto)]
+
 mod faults;
 mod images;
 mod stack;

@@ -1,4 +1,6 @@
 //! Tests of the reader of raw bit images: images that the netpbm tools made, and each fault where it can stand.
+#![tactic(auto)]
+
 #[cfg(test)]
 mod faults;
 #[cfg(test)]

@@ -1,4 +1,6 @@
 //! Pictures: what counts as marked on a grid, whatever it is read from.
+#![tactic(auto)]
+
 mod counts;
 mod grey;
 mod half_grid;

@@ -3,6 +3,8 @@
 //! After every list the job stands as a book says that is kept from the calls alone, and every cell holds a nearest mark
 //! of its slab. `find_field` is the list that a caller wants most: it loads a picture, works all rows and finishes;
 //! `find_field_watched` tells a watcher how far it has come.
+#![tactic(auto)]
+
 mod calls;
 mod jobs;
 mod replaying;

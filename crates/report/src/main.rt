@@ -1,4 +1,6 @@
 //! Reads a job text from standard input, and prints its report or its fault.
+#![tactic(auto)]
+
 use anyhow::anyhow;
 use job_text::MOST_BYTES;
 use reporting::{ReportError, fault_text, report};

@@ -1,4 +1,6 @@
 //! Examples of the report and of every fault of an input, to the byte.
+#![tactic(auto)]
+
 #[cfg(test)]
 mod tests {
     use reporting::{ReportError, fault_text, report};

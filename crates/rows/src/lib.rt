@@ -1,5 +1,7 @@
 //! The pass over one row of cells: each place of the row gets a nearest of the points that the row holds, under any rule
 //! of distance, in time linear in the row.
+#![tactic(auto)]
+
 mod candidate;
 mod gather;
 mod places;

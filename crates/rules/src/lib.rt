@@ -2,6 +2,8 @@
 //!
 //! `Rule` is what a distance transform asks of a rule, with the laws that it rests on; `Square`, `Block` and `Chess`
 //! are three rules over the spacings of the axes.
+#![tactic(auto)]
+
 mod block;
 mod chess;
 mod halving;

@@ -1,5 +1,7 @@
 //! The signed field of a picture: how far each cell is from the faces between marked and unmarked cells, negative on
 //! marked cells.
+#![tactic(auto)]
+
 mod field;
 mod numbers;
 mod room;

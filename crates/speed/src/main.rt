@@ -1,5 +1,7 @@
 //! Takes the time of the pass over all rows of a grid whose marks are made by chance.
 //! The sum of all values goes to standard output, and the seconds of the three axes to standard error.
+#![tactic(auto)]
+
 mod asked;
 mod axes;
 mod fill;

@@ -2,6 +2,8 @@
 //!
 //! The first line of standard input is a rule with its spacings, the second `begin` with the sizes, and each line after it
 //! a call. The same lines go to standard output, each call with its answer.
+#![tactic(auto)]
+
 mod brick;
 mod script;
 

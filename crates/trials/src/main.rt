@@ -1,4 +1,6 @@
 //! Compares the library with plain searches on random grids. Standard input is a seed and a number of rounds, as `7 40`.
+#![tactic(auto)]
+
 mod crossings;
 mod dice;
 mod fields;

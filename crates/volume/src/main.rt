@@ -1,6 +1,8 @@
 //! Finds the field of a stack of images, up to a whole casting, and writes it to a file.
 //!
 //! What is told of the field goes to standard output, the seconds and the progress to standard error.
+#![tactic(auto)]
+
 mod asked;
 mod clock;
 mod faults;

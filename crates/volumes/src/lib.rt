@@ -1,5 +1,7 @@
 //! Whole volumes: the field of a stack of images of any size that a grid can have, what is told of it, and the bytes of
 //! the file that holds it. Everything that matters of the program `volume` is here, as functions on values.
+#![tactic(auto)]
+
 mod bytes;
 mod field;
 mod summary;

@@ -10,18 +10,18 @@ pub returns-then-number-gt0 : goal.returns-then-number-gt0
 returns-then-number-gt0 c =
     reads_here c.args.text.now c.loop-i.i c.loop-i.number c.args.most c.args.ending c.loop-i.invariant.0 c.loop-i-test.true (c.if-b-end.true ∙ c.byte-end.ensures) c.if-number-gt0.true c.loop-i.invariant.1
 
-pub returns-then-not-is-ascii-digit : goal.returns-then-not-is-ascii-digit
-returns-then-not-is-ascii-digit c =
-    unread_here c.args.text.now c.loop-i.i c.loop-i.number c.args.most c.args.ending c.loop-i.invariant.0 c.loop-i-test.true c.byte-end.result c.byte-end.ensures c.if-not-is-ascii-digit.ensures.cases c.else-b-end.either
+pub returns-then-not-is_ascii_digit : goal.returns-then-not-is_ascii_digit
+returns-then-not-is_ascii_digit c =
+    unread_here c.args.text.now c.loop-i.i c.loop-i.number c.args.most c.args.ending c.loop-i.invariant.0 c.loop-i-test.true c.byte-end.result c.byte-end.ensures c.if-not-is_ascii_digit.ensures.cases c.else-b-end.either
 
-pub returns-then-not-in-range : goal.returns-then-not-in-range
-returns-then-not-in-range c =
-    unread_out c.args.text.now c.loop-i.i c.loop-i.number c.args.most c.args.ending c.loop-i.invariant.0 c.loop-i-test.true c.if-not-is-ascii-digit.ensures.cases c.if-not-in-range.ensures
+pub returns-then-not-in_range : goal.returns-then-not-in_range
+returns-then-not-in_range c =
+    unread_out c.args.text.now c.loop-i.i c.loop-i.number c.args.most c.args.ending c.loop-i.invariant.0 c.loop-i-test.true c.if-not-is_ascii_digit.ensures.cases c.if-not-in_range.ensures
 
 pub loop-i-preserved : goal.loop-i-preserved
 loop-i-preserved c =
-    let range = c.if-not-in-range.ensures in
-    (digit_here c.args.text.now c.loop-i.i c.loop-i.number c.args.most c.args.ending c.loop-i.invariant.0 c.loop-i-test.true c.if-not-is-ascii-digit.ensures.cases range.0, range.1)
+    let range = c.if-not-in_range.ensures in
+    (digit_here c.args.text.now c.loop-i.i c.loop-i.number c.args.most c.args.ending c.loop-i.invariant.0 c.loop-i-test.true c.if-not-is_ascii_digit.ensures.cases range.0, range.1)
 
 pub returns : goal.returns
 returns c = unread_past c.args.text.now c.loop-i.i c.loop-i.number c.args.most c.args.ending c.loop-i.invariant.0 c.loop-i-test.false

@@ -7,16 +7,16 @@ use Rattle.pictures.proofs.counts.count_marked.Goals.{then-marked, else-marked}
 pub loop-k-init : goal.loop-k-init
 loop-k-init g c = sym (count_none _)
 
-pub overflow-add-count : goal.overflow-add-count
-overflow-add-count g c = omega (arith, count_at_most (marks_by_number c.sizes-sizes.result (g.P.Picture.marks c.args.picture.now)) c.loop-k.k)
+pub overflow_add-count : goal.overflow_add-count
+overflow_add-count g c = omega (arith, count_at_most (marks_by_number c.sizes-sizes.result (g.P.Picture.marks c.args.picture.now)) c.loop-k.k)
 
 pub loop-k-preserved : goal.loop-k-preserved
 loop-k-preserved g c =
     let marks = g.P.Picture.marks c.args.picture.now in
     let sizes = c.sizes-sizes.result in
     elim c.if-marked.branch [
-      | then-marked w ↦ counted_yes marks sizes c.place-in.result c.loop-k.k c.loop-k.count c.if-marked.count c.loop-k.invariant c.place-in.ensures w.if-marked.ensures w.count-is
-      | else-marked w ↦ counted_no marks sizes c.place-in.result c.loop-k.k c.loop-k.count c.if-marked.count c.loop-k.invariant c.place-in.ensures w.if-marked.ensures w.count-is
+      | then-marked w ↦ counted_yes marks sizes c.place_in.result c.loop-k.k c.loop-k.count c.if-marked.count c.loop-k.invariant c.place_in.ensures w.if-marked.ensures w.count-is
+      | else-marked w ↦ counted_no marks sizes c.place_in.result c.loop-k.k c.loop-k.count c.if-marked.count c.loop-k.invariant c.place_in.ensures w.if-marked.ensures w.count-is
     ]
 
 pub returns : goal.returns

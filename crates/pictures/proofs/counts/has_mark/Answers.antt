@@ -5,10 +5,10 @@ use Rattle.pictures.proofs.counts.has_mark.Goals as goal
 pub returns-then-marked : goal.returns-then-marked
 returns-then-marked g c =
     let p = c.args.picture.now in
-    found (g.P.Picture.extent p) (g.P.Picture.lawful.grid p) (g.P.Picture.marks p) c.sizes-sizes.result c.sizes-sizes.ensures c.loop-k.k c.place-in.result c.loop-k-test.true c.place-in.ensures c.if-marked.ensures
+    found (g.P.Picture.extent p) (g.P.Picture.lawful.grid p) (g.P.Picture.marks p) c.sizes-sizes.result c.sizes-sizes.ensures c.loop-k.k c.place_in.result c.loop-k-test.true c.place_in.ensures c.if-marked.ensures
 
 pub loop-k-preserved : goal.loop-k-preserved
-loop-k-preserved g c = below_more _ _ c.loop-k.invariant (ap (g.P.Picture.marks c.args.picture.now) (sym c.place-in.ensures) ∙ sym c.if-marked.ensures)
+loop-k-preserved g c = below_more _ _ c.loop-k.invariant (ap (g.P.Picture.marks c.args.picture.now) (sym c.place_in.ensures) ∙ sym c.if-marked.ensures)
 
 pub returns : goal.returns
 returns g c =

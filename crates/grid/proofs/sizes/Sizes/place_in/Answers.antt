@@ -2,5 +2,5 @@ use Rattle.std.proofs.Common.{arith}
 use Rattle.grid.proofs.Places.{layer_positive}
 use Rattle.grid.proofs.sizes.Sizes.place_in.Goals as goal
 
-pub nonzero-div-result-2 : goal.nonzero-div-result-2
-nonzero-div-result-2 c = omega (arith, layer_positive c.args.self c.requires)
+pub nonzero_div-result-2 : goal.nonzero_div-result-2
+nonzero_div-result-2 c = omega (arith, layer_positive c.args.self c.requires)
