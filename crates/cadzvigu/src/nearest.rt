@@ -24,11 +24,11 @@ fn fill_field<R: Rule + Drop, P: Picture>(
     values: &mut [u64],
     points: &mut [u32],
 )
-    requires cells { length cells.old ≡ cell_count (extent picture.now) }
-    requires values { length values.old ≡ cell_count (extent picture.now) }
-    requires points { length points.old ≡ cell_count (extent picture.now) }
-    requires mark { SomeMarked (extent picture.now) (marks picture.now) }
-    ensures { HoldsNearest (near rule) (extent picture.now) (marks_by_number (extent picture.now) (marks picture.now)) values.new points.new }
+    requires cells { length cells.old ≡ cell_count (P.extent picture.now) }
+    requires values { length values.old ≡ cell_count (P.extent picture.now) }
+    requires points { length points.old ≡ cell_count (P.extent picture.now) }
+    requires mark { SomeMarked (P.extent picture.now) (P.marks picture.now) }
+    ensures { HoldsNearest (R.near rule) (P.extent picture.now) (marks_by_number (P.extent picture.now) (P.marks picture.now)) values.new points.new }
 {
     match find_field(rule, picture, cells) {
         Ok(_) => write_field(cells, values, points),
@@ -45,7 +45,7 @@ fn nearest_in<R: Rule + Drop, P: Picture>(
     values: &mut [u64],
     points: &mut [u32],
 ) -> Result<(), Fault>
-    ensures { Ends result (refused_by (field_questions (extent picture.now) (marks_by_number (extent picture.now) (marks picture.now)) (length values.old) (length points.old))) ((values.new ≡ values.old) × (points.new ≡ points.old)) (HoldsNearest (near rule) (extent picture.now) (marks_by_number (extent picture.now) (marks picture.now)) values.new points.new) }
+    ensures { Ends result (refused_by (field_questions (P.extent picture.now) (marks_by_number (P.extent picture.now) (P.marks picture.now)) (length values.old) (length points.old))) ((values.new ≡ values.old) × (points.new ≡ points.old)) (HoldsNearest (R.near rule) (P.extent picture.now) (marks_by_number (P.extent picture.now) (P.marks picture.now)) values.new points.new) }
 {
     let sizes = picture.sizes();
     let count = (sizes.nx * sizes.ny * sizes.nz) as usize;
@@ -70,7 +70,7 @@ fn nearest_of_bytes<R: Rule + Drop>(
     values: &mut [u64],
     points: &mut [u32],
 ) -> Result<(), Fault>
-    ensures { Ends result (refused_by (nearest_questions sizes bytes.now (length values.old) (length points.old))) ((values.new ≡ values.old) × (points.new ≡ points.old)) (NearestOfBytes (near rule) sizes bytes.now values.new points.new) }
+    ensures { Ends result (refused_by (nearest_questions sizes bytes.now (length values.old) (length points.old))) ((values.new ≡ values.old) × (points.new ≡ points.old)) (NearestOfBytes (R.near rule) sizes bytes.now values.new points.new) }
 {
     let picture = Grey::new(sizes, 1, bytes)?;
     nearest_in(heap, rule, &picture, values, points)

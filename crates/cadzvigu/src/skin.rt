@@ -19,7 +19,7 @@ use std::alloc::Global;
 
 /// How many places the half-grid of a picture has.
 fn count_half_places<P: Picture>(picture: &P) -> Result<usize, Refusal>
-    ensures { Admits result (half_grid_door (extent picture.now)) (λ n. n ≡ cell_count (half_sizes (extent picture.now))) }
+    ensures { Admits result (half_grid_door (P.extent picture.now)) (λ n. n ≡ cell_count (half_sizes (P.extent picture.now))) }
 {
     let half = HalfGrid::new(picture)?;
     let sizes = half.sizes();
@@ -28,7 +28,7 @@ fn count_half_places<P: Picture>(picture: &P) -> Result<usize, Refusal>
 
 /// Whether so many numbers are one for each cell of a picture, and the picture has both kinds of cell.
 fn check_numbers<P: Picture>(picture: &P, numbers: usize) -> Result<(), Refusal>
-    ensures { Admits result (numbers_door (extent picture.now) (marks picture.now) numbers) (λ _. Unit {0}) }
+    ensures { Admits result (numbers_door (P.extent picture.now) (P.marks picture.now) numbers) (λ _. Unit {0}) }
 {
     let sizes = picture.sizes();
     if numbers != (sizes.nx * sizes.ny * sizes.nz) as usize {
@@ -47,8 +47,8 @@ fn fill_signed<R: Rule + Drop, P: Picture>(
     cells: &mut [Cell],
     numbers: &mut [i64],
 )
-    requires { signed_door (extent picture.now) (marks picture.now) (length cells.old) (length numbers.old) ≡ None }
-    ensures { HoldsSigned (near rule) (extent picture.now) (marks picture.now) numbers.new }
+    requires { signed_door (P.extent picture.now) (P.marks picture.now) (length cells.old) (length numbers.old) ≡ None }
+    ensures { HoldsSigned (R.near rule) (P.extent picture.now) (P.marks picture.now) numbers.new }
 {
     match signed(picture, rule, cells, numbers) {
         Ok(()) => {}
@@ -64,7 +64,7 @@ fn signed_in<R: Rule + Drop, P: Picture>(
     picture: &P,
     numbers: &mut [i64],
 ) -> Result<(), Fault>
-    ensures { Ends result (refused_by (skin_questions (extent picture.now) (marks picture.now) (length numbers.old))) (numbers.new ≡ numbers.old) (HoldsSigned (near rule) (extent picture.now) (marks picture.now) numbers.new) }
+    ensures { Ends result (refused_by (skin_questions (P.extent picture.now) (P.marks picture.now) (length numbers.old))) (numbers.new ≡ numbers.old) (HoldsSigned (R.near rule) (P.extent picture.now) (P.marks picture.now) numbers.new) }
 {
     let count = count_half_places(picture)?;
     check_numbers(picture, numbers.len())?;
@@ -82,7 +82,7 @@ fn signed_of_bytes<R: Rule + Drop>(
     bytes: &[u8],
     numbers: &mut [i64],
 ) -> Result<(), Fault>
-    ensures { Ends result (refused_by (signed_questions sizes bytes.now (length numbers.old))) (numbers.new ≡ numbers.old) (SignedOfBytes (near rule) sizes bytes.now numbers.new) }
+    ensures { Ends result (refused_by (signed_questions sizes bytes.now (length numbers.old))) (numbers.new ≡ numbers.old) (SignedOfBytes (R.near rule) sizes bytes.now numbers.new) }
 {
     let picture = Grey::new(sizes, 1, bytes)?;
     signed_in(heap, rule, &picture, numbers)

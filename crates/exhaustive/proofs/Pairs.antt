@@ -1,5 +1,5 @@
 -- Two cells of a grid are in the range of a rule, on each axis.
-use Rattle.std.proofs.Common.{◌≡◌, ℕ, ◌-◌, ◌<◌, ◌≤◌, sym, ap, subst, arith}
+use Rattle.std.proofs.Common.{◌≡◌, ℕ, ◌<◌, ◌≤◌, sym, subst, arith}
 use Rattle.grid.specs.declared.sizes.Sizes.{Sizes}
 use Rattle.grid.specs.Geometry.{Place, IsGrid, cell_count, place_of}
 use Rattle.grid.specs.Distance.{Near}

@@ -1,11 +1,11 @@
 -- One marked cell more, and the record of a finished cell.
-use Rattle.std.proofs.Common.{◌≡◌, ℕ, suc, ◌+◌, ◌<◌, ◌≤◌, Bool, true, false, cond, leb, Some, None, Option, sym, refl, ap, ◌∙◌, subst, arith}
+use Rattle.std.proofs.Common.{◌≡◌, ℕ, ◌+◌, ◌<◌, ◌≤◌, Bool, true, false, cond, leb, Some, None, Option, sym, refl, ap, ◌∙◌, subst, arith}
 use Rattle.std.proofs.lemmas.Bool.{leb-true, leb-false}
 use native.Mathlib.Decide.{ℕ_discrete}
 use Rattle.grid.specs.declared.sizes.Sizes.{Sizes}
 use Rattle.grid.specs.Geometry.{Place, cell_count, place_of}
 use Rattle.grid.specs.Distance.{Near, distance}
-use Rattle.grid.specs.Cells.{Marks, Marked, Answers}
+use Rattle.grid.specs.Cells.{Marks, Answers}
 use Rattle.pictures.specs.Numbered.{marks_by_number}
 use Rattle.exhaustive.specs.Search.{Best, NearestBelow, nearer_of}
 

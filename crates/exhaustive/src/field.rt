@@ -16,7 +16,7 @@ pub fn search_field<R: Rule, P: Picture>(
     picture: &P,
     cells: &mut [Cell],
 ) -> Result<(), Refusal>
-    ensures { Searched result (near rule.now) (extent picture.now) (marks_by_number (extent picture.now) (marks picture.now)) cells.old cells.new }
+    ensures { Searched result (R.near rule.now) (P.extent picture.now) (marks_by_number (P.extent picture.now) (P.marks picture.now)) cells.old cells.new }
 {
     let sizes = picture.sizes();
     let count = sizes.nx * sizes.ny * sizes.nz;
@@ -33,7 +33,7 @@ pub fn search_field<R: Rule, P: Picture>(
 fn finished_cell<R: Rule, P: Picture>(rule: &R, picture: &P, sizes: Sizes, at: u32) -> Cell
     requires grid { IsGrid sizes }
     requires cell { at < cell_count sizes }
-    ensures { FinishedCell (near rule.now) sizes (marks_by_number sizes (marks picture.now)) at result }
+    ensures { FinishedCell (R.near rule.now) sizes (marks_by_number sizes (P.marks picture.now)) at result }
 {
     let (point, value) = match nearest_in(rule, picture, sizes, at) {
         Some((from, value)) => (Some(from), value),

@@ -12,7 +12,7 @@ use rules::Rule;
 fn distance_in<R: Rule>(rule: &R, sizes: Sizes, at: u32, from: u32) -> u64
     requires grid { IsGrid sizes }
     requires cells { (at < cell_count sizes) × (from < cell_count sizes) }
-    ensures { result ≡ distance (near rule.now) sizes 3 at from }
+    ensures { result ≡ distance (R.near rule.now) sizes 3 at from }
 {
     let (x, y, z) = sizes.place_in(at);
     let (i, j, k) = sizes.place_in(from);
@@ -30,7 +30,7 @@ pub fn nearest_in<R: Rule, P: Picture>(
 ) -> Option<(u32, u64)>
     requires grid { IsGrid sizes }
     requires cell { at < cell_count sizes }
-    ensures { NearestBelow (near rule.now) sizes (marks_by_number sizes (marks picture.now)) at (cell_count sizes) result }
+    ensures { NearestBelow (R.near rule.now) sizes (marks_by_number sizes (P.marks picture.now)) at (cell_count sizes) result }
 {
     let mut best = None;
     for from in 0..sizes.nx * sizes.ny * sizes.nz {

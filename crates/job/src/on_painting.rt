@@ -43,7 +43,7 @@ impl<R: Rule> Painting<R> {
 
     /// Marks all cells as a picture has them. Refused where its sizes are not the job's (5).
     pub fn load<P: Picture>(&self, cells: &mut [Cell], picture: &P) -> Result<(), Refusal>
-        ensures { Loads result self.now.space.sizes (extent picture.now) (marks picture.now) cells.old cells.new }
+        ensures { Loads result self.now.space.sizes (P.extent picture.now) (P.marks picture.now) cells.old cells.new }
     {
         if !self.space.has(cells) {
             return Err(Refusal::CellCount);

@@ -33,7 +33,7 @@ impl<R: Rule> Working<R> {
     /// Refused where the axis has no such row (7), where a cell of it does not stand at the level below the axis (8), or
     /// where a value in it is above the rule's ceiling (9), which only cells from elsewhere can have.
     pub fn row(&self, cells: &mut [Cell], number: u32) -> Result<(), Refusal>
-        ensures { WorksRow result (near self.now.rule) (ceiling self.now.rule) self.now.space.sizes self.now.axis.number number cells.old cells.new }
+        ensures { WorksRow result (R.near self.now.rule) (R.ceiling self.now.rule) self.now.space.sizes self.now.axis.number number cells.old cells.new }
     {
         let mut room = Room::new();
         self.row_in(cells, number, &mut room)
@@ -41,7 +41,7 @@ impl<R: Rule> Working<R> {
 
     /// The same with room that is lent: made once for many rows, it need not be cleared for each.
     pub fn row_in(&self, cells: &mut [Cell], number: u32, room: &mut Room) -> Result<(), Refusal>
-        ensures { WorksRow result (near self.now.rule) (ceiling self.now.rule) self.now.space.sizes self.now.axis.number number cells.old cells.new }
+        ensures { WorksRow result (R.near self.now.rule) (R.ceiling self.now.rule) self.now.space.sizes self.now.axis.number number cells.old cells.new }
     {
         if !self.space.has(cells) {
             return Err(Refusal::CellCount);

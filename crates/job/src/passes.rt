@@ -33,7 +33,7 @@ pub(crate) fn repaint(cells: &mut [Cell])
 /// Paints every cell as a picture marks it.
 pub(crate) fn copy_picture<P: Picture>(space: Space, cells: &mut [Cell], picture: &P)
     requires { length cells.old ≡ cell_count space.sizes }
-    ensures { cells.new ≡ painted_cells (marks_by_number space.sizes (marks picture.now)) (cell_count space.sizes) }
+    ensures { cells.new ≡ painted_cells (marks_by_number space.sizes (P.marks picture.now)) (cell_count space.sizes) }
 {
     let mut place = (0, 0, 0);
     for k in 0..space.count() {

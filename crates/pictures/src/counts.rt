@@ -6,7 +6,7 @@ use crate::picture::Picture;
 
 /// How many cells of a picture are marked.
 pub fn count_marked<P: Picture>(picture: &P) -> u32
-    ensures { result ≡ count_marks (extent picture.now) (marks picture.now) }
+    ensures { result ≡ count_marks (P.extent picture.now) (P.marks picture.now) }
 {
     let sizes = picture.sizes();
     let mut count = 0;
@@ -20,7 +20,7 @@ pub fn count_marked<P: Picture>(picture: &P) -> u32
 
 /// Whether a picture has a marked cell.
 pub fn has_mark<P: Picture>(picture: &P) -> bool
-    ensures { Decides result (SomeMarked (extent picture.now) (marks picture.now)) }
+    ensures { Decides result (SomeMarked (P.extent picture.now) (P.marks picture.now)) }
 {
     let sizes = picture.sizes();
     for k in 0..sizes.nx * sizes.ny * sizes.nz {
@@ -33,7 +33,7 @@ pub fn has_mark<P: Picture>(picture: &P) -> bool
 
 /// Whether a picture has a marked cell and an unmarked one.
 pub fn has_both_kinds<P: Picture>(picture: &P) -> bool
-    ensures { Decides result (BothKinds (extent picture.now) (marks picture.now)) }
+    ensures { Decides result (BothKinds (P.extent picture.now) (P.marks picture.now)) }
 {
     has_mark(picture) && has_mark(&Negative::new(picture))
 }

@@ -20,14 +20,14 @@ pub struct HalfGrid<'a, P> {
 
 /// Whether the cell at a place is unlike one that is marked, or not, as `first` says.
 fn differs<P: Picture>(below: &P, first: bool, place: (u32, u32, u32)) -> bool
-    ensures { result ≡ differ first (marks below.now place) }
+    ensures { result ≡ differ first (P.marks below.now place) }
 {
     first != below.marked(place)
 }
 
 /// Whether the corners of a place, the cells at half of it, rounded down and up on each axis, are not all alike.
 fn has_mixed_corners<P: Picture>(below: &P, place: (u32, u32, u32)) -> bool
-    ensures { result ≡ mixed_corners (marks below.now) place }
+    ensures { result ≡ mixed_corners (P.marks below.now) place }
 {
     let (x, y, z) = place;
     let (x0, y0, z0) = (x / 2, y / 2, z / 2);
@@ -44,7 +44,7 @@ fn has_mixed_corners<P: Picture>(below: &P, place: (u32, u32, u32)) -> bool
 
 /// The sizes of the half-grid of a picture, also where there can be no such grid.
 fn half_sizes<P: Picture>(below: &P) -> Sizes
-    ensures { result ≡ half_sizes (extent below.now) }
+    ensures { result ≡ half_sizes (P.extent below.now) }
 {
     let sizes = below.sizes();
     Sizes {
@@ -66,7 +66,7 @@ impl<'a, P: Picture> HalfGrid<'a, P> {
     ///
     /// Refuses a picture with a size above 512, then a half-grid of more than 16,777,216 places.
     pub fn new(below: &'a P) -> Result<HalfGrid<'a, P>, Refusal>
-        ensures { Admits result (half_grid_door (extent below.now)) (λ h. (h.below.now ≡ below.now) × AnswersHalfGrid (extent below.now) (marks below.now)) }
+        ensures { Admits result (half_grid_door (P.extent below.now)) (λ h. (h.below.now ≡ below.now) × AnswersHalfGrid (P.extent below.now) (P.marks below.now)) }
     {
         if !fits_doubled(below.sizes()) {
             return Err(Refusal::HalfGridSize);

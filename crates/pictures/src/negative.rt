@@ -15,7 +15,7 @@ impl<'a, P: Picture> Negative<'a, P> {
     /// The negative of this picture.
     pub fn new(of: &'a P) -> Negative<'a, P>
         ensures picture { result.of.now ≡ of.now }
-        ensures rest { MarksTheRest (extent of.now) (marks of.now) (negative_marks (extent of.now) (marks of.now)) }
+        ensures rest { MarksTheRest (P.extent of.now) (P.marks of.now) (negative_marks (P.extent of.now) (P.marks of.now)) }
     {
         Negative { of }
     }

@@ -13,7 +13,6 @@ use Rattle.job.specs.Doors.{row_door}
 use Rattle.grid.specs.Distance.{Near}
 use Rattle.grid.specs.Doors.{unless}
 use Rattle.replay.specs.declared.calls.Answer.{Answer}
-use Rattle.replay.specs.declared.calls.Answer.TheVariants as answer
 use Rattle.replay.specs.declared.calls.Call.{Call}
 use Rattle.replay.specs.declared.calls.Call.TheVariants as call
 use Rattle.replay.specs.Book.{Stage, painting, working, finished, Book, Outcome, absent, refused, accepted, behind, step, step_at, with_row, book_after, OfTheBook}

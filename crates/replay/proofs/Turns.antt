@@ -1,5 +1,5 @@
 -- Each call goes as the book says, and leaves right records.
-use Rattle.std.proofs.Common.{◌≡◌, ℕ, ◌+◌, ◌-◌, ◌<◌, Bool, true, false, eqb, ltb, List, length, set, Some, None, Ok, Err, Option, Result, sym, refl, ap, ◌∙◌, subst, arith, MatchResult}
+use Rattle.std.proofs.Common.{◌≡◌, ℕ, ◌+◌, ◌<◌, Bool, true, false, eqb, ltb, List, length, set, Some, None, Ok, Err, Option, Result, sym, refl, ap, ◌∙◌, subst, arith, MatchResult}
 use Rattle.std.proofs.lemmas.Bool.{and_parts, cond-true, eqb-true, lt-ltb}
 use Rattle.grid.specs.declared.cell.Cell.{Cell}
 use Rattle.grid.specs.declared.refusal.Refusal.{Refusal}
@@ -33,7 +33,7 @@ use Rattle.replay.specs.declared.calls.Call.{Call}
 use Rattle.replay.specs.declared.calls.Call.TheVariants as call
 use Rattle.replay.specs.declared.jobs.Job.{Job}
 use Rattle.replay.specs.declared.jobs.Job.TheVariants as job
-use Rattle.replay.specs.Book.{Stage, painting, working, finished, Book, accepted, behind, step, above, with_mark, with_marks, with_row, at_stage, reopened}
+use Rattle.replay.specs.Book.{Stage, working, finished, Book, accepted, behind, step, above, with_mark, with_marks, with_row, at_stage, reopened}
 use Rattle.replay.specs.Jobs.{raised_job, rule_of, sizes_of, shown, Sound}
 use Rattle.replay.specs.Runs.{Called, Accepted, CellPainted}
 use Rattle.replay.proofs.Painted.{marks_past, marks_set, levels_set, painted_set, level_0, levels_0, marks_painted, painted_all, picture_past}

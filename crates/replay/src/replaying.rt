@@ -24,7 +24,7 @@ pub fn replay<R: Rule, P: Picture>(
     calls: &[Call<P>],
     answers: &mut [Answer],
 ) -> Result<Job<R>, Unplayed<R>>
-    ensures { Replays extent marks (near rule) rule sizes calls.now result answers.old answers.new cells.old cells.new }
+    ensures { Replays P.extent P.marks (R.near rule) rule sizes calls.now result answers.old answers.new cells.old cells.new }
 {
     if answers.len() != calls.len() {
         return Err(Unplayed::AnswerCount(rule));
@@ -56,9 +56,9 @@ pub fn replay_both<R: Rule + Copy, P: Picture, Q: Picture>(
     other_calls: &[Call<Q>],
     other_answers: &mut [Answer],
 ) -> (Result<Job<R>, Unplayed<R>>, Result<Job<R>, Unplayed<R>>)
-    ensures first { Replays P.Picture.extent P.Picture.marks (near rule) rule sizes calls.now result.0 answers.old answers.new cells.old cells.new }
-    ensures second { Replays Q.Picture.extent Q.Picture.marks (near rule) rule sizes other_calls.now result.1 other_answers.old other_answers.new other_cells.old other_cells.new }
-    ensures outcome { OneOutcome result.0 result.1 sizes (book_after P.Picture.extent P.Picture.marks sizes calls.now) (book_after Q.Picture.extent Q.Picture.marks sizes other_calls.now) cells.new other_cells.new }
+    ensures first { Replays P.extent P.marks (R.near rule) rule sizes calls.now result.0 answers.old answers.new cells.old cells.new }
+    ensures second { Replays Q.extent Q.marks (R.near rule) rule sizes other_calls.now result.1 other_answers.old other_answers.new other_cells.old other_cells.new }
+    ensures outcome { OneOutcome result.0 result.1 sizes (book_after P.extent P.marks sizes calls.now) (book_after Q.extent Q.marks sizes other_calls.now) cells.new other_cells.new }
 {
     let first = replay(rule, sizes, cells, calls, answers);
     let second = replay(rule, sizes, other_cells, other_calls, other_answers);

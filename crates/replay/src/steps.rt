@@ -27,8 +27,8 @@ fn call_painting<R: Rule, P: Picture>(
     cells: &mut [Cell],
     call: &Call<P>,
 ) -> (Job<R>, Answer)
-    requires { Sound (near job.rule) (Job.Painting job) cells.old }
-    ensures { Called extent marks (near job.rule) (step extent marks (shown (Job.Painting job) cells.old) call.now) (Job.Painting job) call.now result.0 result.1 cells.old cells.new }
+    requires { Sound (R.near job.rule) (Job.Painting job) cells.old }
+    ensures { Called P.extent P.marks (R.near job.rule) (step P.extent P.marks (shown (Job.Painting job) cells.old) call.now) (Job.Painting job) call.now result.0 result.1 cells.old cells.new }
 {
     match call {
         Call::Mark(place) => {
@@ -70,8 +70,8 @@ fn call_working<R: Rule, P: Picture>(
     call: &Call<P>,
     room: &mut Room,
 ) -> (Job<R>, Answer)
-    requires { Sound (near job.rule) (Job.Working job) cells.old }
-    ensures { Called extent marks (near job.rule) (step extent marks (shown (Job.Working job) cells.old) call.now) (Job.Working job) call.now result.0 result.1 cells.old cells.new }
+    requires { Sound (R.near job.rule) (Job.Working job) cells.old }
+    ensures { Called P.extent P.marks (R.near job.rule) (step P.extent P.marks (shown (Job.Working job) cells.old) call.now) (Job.Working job) call.now result.0 result.1 cells.old cells.new }
 {
     match call {
         Call::Row(number) => {
@@ -98,8 +98,8 @@ fn call_finished<R: Rule, P: Picture>(
     cells: &mut [Cell],
     call: &Call<P>,
 ) -> (Job<R>, Answer)
-    requires { Sound (near job.rule) (Job.Finished job) cells.old }
-    ensures { Called extent marks (near job.rule) (step extent marks (shown (Job.Finished job) cells.old) call.now) (Job.Finished job) call.now result.0 result.1 cells.old cells.new }
+    requires { Sound (R.near job.rule) (Job.Finished job) cells.old }
+    ensures { Called P.extent P.marks (R.near job.rule) (step P.extent P.marks (shown (Job.Finished job) cells.old) call.now) (Job.Finished job) call.now result.0 result.1 cells.old cells.new }
 {
     match call {
         Call::Look(place) => match job.look(cells, *place) {
@@ -123,8 +123,8 @@ impl<R: Rule> Job<R> {
         call: &Call<P>,
         room: &mut Room,
     ) -> (Job<R>, Answer)
-        requires { Sound (near (rule_of self)) self cells.old }
-        ensures { Called extent marks (near (rule_of self)) (step extent marks (shown self cells.old) call.now) self call.now result.0 result.1 cells.old cells.new }
+        requires { Sound (R.near (rule_of self)) self cells.old }
+        ensures { Called P.extent P.marks (R.near (rule_of self)) (step P.extent P.marks (shown self cells.old) call.now) self call.now result.0 result.1 cells.old cells.new }
     {
         match self {
             Job::Painting(job) => call_painting(job, cells, call),

@@ -17,9 +17,9 @@ use rules::Rule;
 
 /// Begins a job for a picture and loads it.
 fn paint_picture<R: Rule, P: Picture>(rule: R, picture: &P, cells: &mut [Cell]) -> Painting<R>
-    requires { length cells.old ≡ cell_count (extent picture.now) }
-    ensures job { IsPainting rule (extent picture.now) result }
-    ensures cells { cells.new ≡ painted_cells (marks_by_number (extent picture.now) (marks picture.now)) (cell_count (extent picture.now)) }
+    requires { length cells.old ≡ cell_count (P.extent picture.now) }
+    ensures job { IsPainting rule (P.extent picture.now) result }
+    ensures cells { cells.new ≡ painted_cells (marks_by_number (P.extent picture.now) (P.marks picture.now)) (cell_count (P.extent picture.now)) }
 {
     let painting = match begin(rule, picture.sizes(), cells) {
         Ok(painting) => painting,
@@ -50,8 +50,8 @@ fn work_axis<R: Rule, W: Watch>(
     room: &mut Room,
     watch: &mut W,
 )
-    requires { FieldAt (near job.now.rule) job.now.space.sizes (marks_in cells.old) (job.now.axis.number - 1) cells.old }
-    ensures { AxisDone (near job.now.rule) job.now.space.sizes job.now.axis.number cells.old cells.new }
+    requires { FieldAt (R.near job.now.rule) job.now.space.sizes (marks_in cells.old) (job.now.axis.number - 1) cells.old }
+    ensures { AxisDone (R.near job.now.rule) job.now.space.sizes job.now.axis.number cells.old cells.new }
 {
     let axis = job.axis_number();
     let count = job.row_count();
@@ -66,7 +66,7 @@ fn work_axis<R: Rule, W: Watch>(
 
 /// Leads a job whose rows are all worked to the next axis, or to the end.
 fn raised<R: Rule>(job: Working<R>, cells: &[Cell]) -> Raised<R>
-    requires { FieldAt (near job.rule) job.space.sizes (marks_in cells.now) job.axis.number cells.now }
+    requires { FieldAt (R.near job.rule) job.space.sizes (marks_in cells.now) job.axis.number cells.now }
     ensures { Rises job.rule job.space.sizes job.axis.number result }
 {
     match job.raise(cells) {
@@ -82,8 +82,8 @@ fn finish<R: Rule, W: Watch>(
     room: &mut Room,
     watch: &mut W,
 ) -> Finished<R>
-    requires { FieldAt (near job.rule) job.space.sizes (marks_in cells.old) (job.axis.number - 1) cells.old }
-    ensures { AllDone (near job.rule) job.rule job.space.sizes result cells.old cells.new }
+    requires { FieldAt (R.near job.rule) job.space.sizes (marks_in cells.old) (job.axis.number - 1) cells.old }
+    ensures { AllDone (R.near job.rule) job.rule job.space.sizes result cells.old cells.new }
 {
     let mut working = job;
     loop {
@@ -104,7 +104,7 @@ pub fn find_field<R: Rule, P: Picture>(
     picture: &P,
     cells: &mut [Cell],
 ) -> Result<Finished<R>, Kept<R>>
-    ensures { FindsField result (near rule) rule (extent picture.now) (marks_by_number (extent picture.now) (marks picture.now)) cells.old cells.new }
+    ensures { FindsField result (R.near rule) rule (P.extent picture.now) (marks_by_number (P.extent picture.now) (P.marks picture.now)) cells.old cells.new }
 {
     find_field_watched(rule, picture, cells, &mut Unwatched)
 }
@@ -116,7 +116,7 @@ pub fn find_field_watched<R: Rule, P: Picture, W: Watch>(
     cells: &mut [Cell],
     watch: &mut W,
 ) -> Result<Finished<R>, Kept<R>>
-    ensures { FindsField result (near rule) rule (extent picture.now) (marks_by_number (extent picture.now) (marks picture.now)) cells.old cells.new }
+    ensures { FindsField result (R.near rule) rule (P.extent picture.now) (marks_by_number (P.extent picture.now) (P.marks picture.now)) cells.old cells.new }
 {
     let sizes = picture.sizes();
     if cells.len() != (sizes.nx * sizes.ny * sizes.nz) as usize {

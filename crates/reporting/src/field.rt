@@ -26,8 +26,8 @@ fn report_cells<R: Rule + Drop, P: Picture>(
     picture: &P,
     cells: &mut [Cell],
 ) -> Result<String, ReportError>
-    requires { length cells.old ≡ cell_count (extent picture.now) }
-    ensures { MatchResult result (λ t. ReportsField name (near rule) (extent picture.now) (marks_by_number (extent picture.now) (marks picture.now)) (string_bytes t)) (λ e. NoField (extent picture.now) (marks_by_number (extent picture.now) (marks picture.now)) e) }
+    requires { length cells.old ≡ cell_count (P.extent picture.now) }
+    ensures { MatchResult result (λ t. ReportsField name (R.near rule) (P.extent picture.now) (marks_by_number (P.extent picture.now) (P.marks picture.now)) (string_bytes t)) (λ e. NoField (P.extent picture.now) (marks_by_number (P.extent picture.now) (P.marks picture.now)) e) }
 {
     match find_field(rule, picture, cells) {
         Ok(_) => field_text(heap, name, picture.sizes(), cells),
@@ -42,7 +42,7 @@ fn report_field<R: Rule + Drop, P: Picture>(
     rule: R,
     picture: &P,
 ) -> Result<String, ReportError>
-    ensures { MatchResult result (λ t. ReportsField name (near rule) (extent picture.now) (marks_by_number (extent picture.now) (marks picture.now)) (string_bytes t)) (λ e. NoField (extent picture.now) (marks_by_number (extent picture.now) (marks picture.now)) e) }
+    ensures { MatchResult result (λ t. ReportsField name (R.near rule) (P.extent picture.now) (marks_by_number (P.extent picture.now) (P.marks picture.now)) (string_bytes t)) (λ e. NoField (P.extent picture.now) (marks_by_number (P.extent picture.now) (P.marks picture.now)) e) }
 {
     let sizes = picture.sizes();
     let count = sizes.nx * sizes.ny * sizes.nz;

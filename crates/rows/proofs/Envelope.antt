@@ -1,5 +1,5 @@
 -- What the crossing law gives of a stack of candidates.
-use Rattle.std.proofs.Common.{◌≡◌, ℕ, zero, suc, ◌+◌, ◌-◌, ◌<◌, ◌≤◌, ◌≢◌, ◌⊎◌, List, [], ◌∷◌, length, get_or, set, sym, refl, subst, inl, inr, ⊎_elim, le_trans, le_of_lt, add-one, arith, get_or-set_other, get_or-set_same}
+use Rattle.std.proofs.Common.{◌≡◌, ℕ, zero, suc, ◌+◌, ◌-◌, ◌<◌, ◌≤◌, ◌≢◌, List, [], ◌∷◌, length, get_or, set, sym, refl, subst, inl, inr, ⊎_elim, le_trans, le_of_lt, add-one, arith, get_or-set_other, get_or-set_same}
 use Rattle.std.specs.List.{AllByRecursion as All}
 use Rattle.std.proofs.lemmas.Bool.{cases_lt, cases_eq}
 use Rattle.grid.specs.Distance.{Near}
@@ -9,7 +9,7 @@ use Rattle.rules.specs.Ranges.{Paired}
 use Rattle.rules.specs.Laws.{Crossing}
 use Rattle.rules.proofs.Orders.{stays}
 use Rattle.rows.specs.declared.candidate.Candidate.{Candidate}
-use Rattle.rows.specs.Stacks.{no_candidate, stacked, cost_of, Overtakes, Follows, LinedUp, Covers, Within, Climbs, start_of}
+use Rattle.rows.specs.Stacks.{no_candidate, stacked, cost_of, Overtakes, LinedUp, Covers, Within, Climbs, start_of}
 
 -- the slice below the top
 

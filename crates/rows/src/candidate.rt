@@ -24,9 +24,9 @@ pub(crate) const UNUSED: Candidate = Candidate {
 /// The lowest place at which `new` is no farther than `old`, or 1023 where there is none.
 pub(crate) fn overtaking<R: Rule>(rule: &R, axis: u8, old: Candidate, new: Candidate) -> u16
     requires axis { OnAxis axis }
-    requires old { Within (ceiling rule.now (axis - 1)) new.place old }
-    requires new { Within (ceiling rule.now (axis - 1)) 1023 new }
-    ensures { Overtakes (near rule.now axis) old new result }
+    requires old { Within (R.ceiling rule.now (axis - 1)) new.place old }
+    requires new { Within (R.ceiling rule.now (axis - 1)) 1023 new }
+    ensures { Overtakes (R.near rule.now axis) old new result }
 {
     let place = rule.crossing_in(
         axis,
@@ -41,9 +41,9 @@ pub(crate) fn overtaking<R: Rule>(rule: &R, axis: u8, old: Candidate, new: Candi
 /// What a candidate costs at the place `t`.
 pub(crate) fn cost<R: Rule>(rule: &R, axis: u8, candidate: Candidate, t: u16) -> u64
     requires axis { OnAxis axis }
-    requires candidate { Within (ceiling rule.now (axis - 1)) 1023 candidate }
+    requires candidate { Within (R.ceiling rule.now (axis - 1)) 1023 candidate }
     requires place { t < 1023 }
-    ensures { result ≡ cost_of (near rule.now axis) candidate t }
+    ensures { result ≡ cost_of (R.near rule.now axis) candidate t }
 {
     rule.near_in(axis, candidate.place as u32, t as u32, candidate.value)
 }

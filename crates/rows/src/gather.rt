@@ -15,7 +15,7 @@ use rules::Rule;
 /// The most that a point on the axis can carry.
 fn most_on<R: Rule>(rule: &R, axis: u8) -> u64
     requires { OnAxis axis }
-    ensures { result ≡ ceiling rule.now (axis - 1) }
+    ensures { result ≡ R.ceiling rule.now (axis - 1) }
 {
     match rule.most_carried(axis) {
         Some(most) => most,
@@ -50,7 +50,7 @@ pub(crate) fn gather<R: Rule>(
     requires axis { OnAxis axis }
     requires row { LiesIn row (length cells.now) }
     requires room { row.count ≤ length stack.old }
-    ensures { Admits result (pass_door (ceiling rule.now) axis row cells.now) (Gathered (near rule.now axis) row.count (records cells.now (row_at row)) row.count stack.new) }
+    ensures { Admits result (pass_door (R.ceiling rule.now) axis row cells.now) (Gathered (R.near rule.now axis) row.count (records cells.now (row_at row)) row.count stack.new) }
 {
     let most = most_on(rule, axis);
     let mut len = 0;

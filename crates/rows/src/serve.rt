@@ -45,10 +45,10 @@ pub(crate) fn serve<R: Rule>(
 )
     requires axis { OnAxis axis }
     requires row { LiesIn row (length cells.old) }
-    requires values { RowBelow row.count (records cells.old (row_at row)) (ceiling rule.now (axis - 1)) }
+    requires values { RowBelow row.count (records cells.old (row_at row)) (R.ceiling rule.now (axis - 1)) }
     requires some { (0 < len) × (len ≤ length stack.now) }
-    requires gathered { Gathered (near rule.now axis) row.count (records cells.old (row_at row)) row.count stack.now len }
-    ensures { SliceRowDone (near rule.now) axis row cells.old cells.new }
+    requires gathered { Gathered (R.near rule.now axis) row.count (records cells.old (row_at row)) row.count stack.now len }
+    ensures { SliceRowDone (R.near rule.now) axis row cells.old cells.new }
 {
     let mut k = 0;
     for t in 0..row.count {

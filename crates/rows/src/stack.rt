@@ -18,10 +18,10 @@ struct Slot {
 fn settle<R: Rule>(rule: &R, axis: u8, stack: &[Candidate], len: usize, new: Candidate) -> Slot
     requires axis { OnAxis axis }
     requires inside { len ≤ length stack.now }
-    requires new { Within (ceiling rule.now (axis - 1)) 1023 new }
-    requires lined { LinedUp (near rule.now axis) (stacked stack.now len) }
-    requires below { All (Within (ceiling rule.now (axis - 1)) new.place) (stacked stack.now len) }
-    ensures { Settled (near rule.now axis) stack.now len new result.len result.start }
+    requires new { Within (R.ceiling rule.now (axis - 1)) 1023 new }
+    requires lined { LinedUp (R.near rule.now axis) (stacked stack.now len) }
+    requires below { All (Within (R.ceiling rule.now (axis - 1)) new.place) (stacked stack.now len) }
+    ensures { Settled (R.near rule.now axis) stack.now len new result.len result.start }
 {
     let mut n = len;
     while n > 0 {
@@ -47,10 +47,10 @@ pub(crate) fn add<R: Rule>(
     requires axis { OnAxis axis }
     requires inside { len < length stack.old }
     requires count { (count ≤ 1023) × (1 ≤ count) }
-    requires new { Within (ceiling rule.now (axis - 1)) 1023 new }
-    requires lined { LinedUp (near rule.now axis) (stacked stack.old len) }
-    requires below { All (Within (ceiling rule.now (axis - 1)) new.place) (stacked stack.old len) }
-    ensures { Added (near rule.now axis) count stack.old len new stack.new result }
+    requires new { Within (R.ceiling rule.now (axis - 1)) 1023 new }
+    requires lined { LinedUp (R.near rule.now axis) (stacked stack.old len) }
+    requires below { All (Within (R.ceiling rule.now (axis - 1)) new.place) (stacked stack.old len) }
+    ensures { Added (R.near rule.now axis) count stack.old len new stack.new result }
 {
     let slot = settle(rule, axis, stack, len, new);
     if slot.start >= count {

@@ -24,7 +24,7 @@ pub fn work_row<R: Rule>(
 ) -> Result<(), Refusal>
     requires axis { OnAxis axis }
     requires row { LiesIn row (length cells.old) }
-    ensures { Worked result (near rule.now) (ceiling rule.now) axis row cells.old cells.new }
+    ensures { Worked result (R.near rule.now) (R.ceiling rule.now) axis row cells.old cells.new }
 {
     let len = gather(rule, axis, cells, row, &mut room.candidates)?;
     if len == 0 {

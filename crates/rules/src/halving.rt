@@ -12,7 +12,7 @@ pub fn crossing_by_halving<R: Rule>(
     later: u32,
     h: u64,
 ) -> Option<u32>
-    ensures { Answered result (Paired (ceiling rule.now) axis earlier g later h) (IsCrossing (near rule.now) axis earlier g later h) }
+    ensures { Answered result (Paired (R.ceiling rule.now) axis earlier g later h) (IsCrossing (R.near rule.now) axis earlier g later h) }
 {
     if !rule.pairs(axis, earlier, g, later, h) {
         return None;

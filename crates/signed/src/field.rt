@@ -15,9 +15,9 @@ use rules::Rule;
 
 /// Finds the field of a picture that has a mark, in one cell for each of the picture's.
 fn find_whole<R: Rule + Drop, P: Picture>(rule: R, picture: &P, cells: &mut [Cell])
-    requires room { length cells.old ≡ cell_count (extent picture.now) }
-    requires mark { SomeMarked (extent picture.now) (marks picture.now) }
-    ensures { FinishedField (near rule) (extent picture.now) (marks_by_number (extent picture.now) (marks picture.now)) cells.new }
+    requires room { length cells.old ≡ cell_count (P.extent picture.now) }
+    requires mark { SomeMarked (P.extent picture.now) (P.marks picture.now) }
+    ensures { FinishedField (R.near rule) (P.extent picture.now) (marks_by_number (P.extent picture.now) (P.marks picture.now)) cells.new }
 {
     match find_field(rule, picture, cells) {
         Ok(_) => {}
@@ -39,7 +39,7 @@ pub fn signed<P: Picture, R: Rule + Drop>(
     cells: &mut [Cell],
     output: &mut [i64],
 ) -> Result<(), Refusal>
-    ensures { Fills result (extent picture.now) (marks picture.now) cells.old cells.new output.old output.new (SignedField (near rule) (extent picture.now) (marks picture.now) cells.new output.new) }
+    ensures { Fills result (P.extent picture.now) (P.marks picture.now) cells.old cells.new output.old output.new (SignedField (R.near rule) (P.extent picture.now) (P.marks picture.now) cells.new output.new) }
 {
     let half = HalfGrid::new(picture)?;
     check_room(picture, half.sizes(), cells.len(), output.len())?;
@@ -56,8 +56,8 @@ pub fn signed_of_negative<P: Picture, R: Rule + Drop>(
     cells: &mut [Cell],
     output: &mut [i64],
 ) -> Result<(), Refusal>
-    ensures turned { Fills result (extent picture.now) (marks picture.now) cells.old cells.new output.old output.new (TurnedField (near rule) (extent picture.now) (marks picture.now) cells.new output.new) }
-    ensures own { Fills result (extent picture.now) (negative_marks (extent picture.now) (marks picture.now)) cells.old cells.new output.old output.new (SignedField (near rule) (extent picture.now) (negative_marks (extent picture.now) (marks picture.now)) cells.new output.new) }
+    ensures turned { Fills result (P.extent picture.now) (P.marks picture.now) cells.old cells.new output.old output.new (TurnedField (R.near rule) (P.extent picture.now) (P.marks picture.now) cells.new output.new) }
+    ensures own { Fills result (P.extent picture.now) (negative_marks (P.extent picture.now) (P.marks picture.now)) cells.old cells.new output.old output.new (SignedField (R.near rule) (P.extent picture.now) (negative_marks (P.extent picture.now) (P.marks picture.now)) cells.new output.new) }
 {
     let negative = Negative::new(picture);
     signed(&negative, rule, cells, output)

@@ -10,9 +10,9 @@ use pictures::Picture;
 
 /// The number of the cell at a place: the value at its doubled place, negated where the cell is marked.
 fn number_at<P: Picture>(picture: &P, half: Sizes, cells: &[Cell], place: (u32, u32, u32)) -> i64
-    requires field { CanRead (extent picture.now) half cells.now }
-    requires place { inside (extent picture.now) place ≡ true }
-    ensures { result ≡ with_sign (marks picture.now place) (cell_at cells.now (cell_number half (doubled place))).value }
+    requires field { CanRead (P.extent picture.now) half cells.now }
+    requires place { inside (P.extent picture.now) place ≡ true }
+    ensures { result ≡ with_sign (P.marks picture.now place) (cell_at cells.now (cell_number half (doubled place))).value }
 {
     let (x, y, z) = place;
     let at = half.number_in((2 * x, 2 * y, 2 * z));
@@ -27,9 +27,9 @@ pub(crate) fn write_numbers<P: Picture>(
     cells: &[Cell],
     output: &mut [i64],
 )
-    requires field { CanRead (extent picture.now) half cells.now }
-    requires room { length output.old ≡ cell_count (extent picture.now) }
-    ensures { ReadsField (extent picture.now) (marks picture.now) cells.now output.new }
+    requires field { CanRead (P.extent picture.now) half cells.now }
+    requires room { length output.old ≡ cell_count (P.extent picture.now) }
+    ensures { ReadsField (P.extent picture.now) (P.marks picture.now) cells.now output.new }
 {
     let sizes = picture.sizes();
     let mut place = (0, 0, 0);

@@ -16,9 +16,9 @@ pub(crate) fn check_room<P: Picture>(
     cells: usize,
     numbers: usize,
 ) -> Result<(), Refusal>
-    requires half { half ≡ half_sizes (extent picture.now) }
+    requires half { half ≡ half_sizes (P.extent picture.now) }
     requires grid { IsGrid half }
-    ensures { Admits result (room_door (extent picture.now) (marks picture.now) cells numbers) (λ _. BothKinds (extent picture.now) (marks picture.now)) }
+    ensures { Admits result (room_door (P.extent picture.now) (P.marks picture.now) cells numbers) (λ _. BothKinds (P.extent picture.now) (P.marks picture.now)) }
 {
     let sizes = picture.sizes();
     if cells != (half.nx * half.ny * half.nz) as usize {

@@ -46,7 +46,7 @@ fn field_of<R: Rule + Drop, P: Picture, W: Watch>(
     picture: &P,
     watch: &mut W,
 ) -> Result<Vec<Cell>, VolumeFault>
-    ensures { MatchResult result (λ v. FieldFound (near rule) (extent picture.now) (marks_by_number (extent picture.now) (marks picture.now)) v.items) (λ e. NoField (extent picture.now) (marks_by_number (extent picture.now) (marks picture.now)) e) }
+    ensures { MatchResult result (λ v. FieldFound (R.near rule) (P.extent picture.now) (marks_by_number (P.extent picture.now) (P.marks picture.now)) v.items) (λ e. NoField (P.extent picture.now) (marks_by_number (P.extent picture.now) (P.marks picture.now)) e) }
 {
     let sizes = picture.sizes();
     let count = sizes.nx * sizes.ny * sizes.nz;

@@ -1,4 +1,4 @@
-use Rattle.std.proofs.Common.{ℕ, ◌≤◌, Option, sym, refl, subst, arith}
+use Rattle.std.proofs.Common.{ℕ, Option, sym, refl, subst, arith}
 use Rattle.grid.specs.Cells.{Answers}
 use Rattle.pictures.specs.Numbered.{marks_by_number}
 use Rattle.exhaustive.proofs.Searching.{mark_told, answers_some, answers_none}
@@ -11,14 +11,14 @@ returns g c =
     let s = c.args.sizes in
     let marks = marks_by_number s (g.P.Picture.marks c.args.picture.now) in
     let Right : Option ℕ × ℕ → Type 0 = λ a. Answers near s marks 3 c.args.at a.0 a.1 in
-    let right : Right c.match-nearest-in.point =
-    elim c.match-nearest-in.branch [
+    let right : Right c.match-nearest_in.point =
+    elim c.match-nearest_in.branch [
       | in-Some w ↦ subst Right (sym w.point-is) (answers_some near s marks c.args.at (w.in-Some.from, w.in-Some.value) w.in-Some.ensures)
       | in-None w ↦ subst Right (sym w.point-is) (answers_none near s marks c.args.at w.in-None.ensures)
     ] in
     record {
       holds = record {
-        mark = mark_told (g.P.Picture.marks c.args.picture.now) s c.args.at c.place-in.result c.marked.result c.place-in.ensures c.marked.ensures;
+        mark = mark_told (g.P.Picture.marks c.args.picture.now) s c.args.at c.place_in.result c.marked.result c.place_in.ensures c.marked.ensures;
         level_at_most_3 = omega arith;
         nearest = right;
       };

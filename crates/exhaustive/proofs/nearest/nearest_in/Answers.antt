@@ -14,10 +14,10 @@ loop-from-preserved g c =
     let marks = marks_by_number s marked in
     let from = c.loop-from.from in
     elim c.if-marked.branch [
-      | then-marked w ↦ on_from_marked near s marks c.args.at from w.distance-in-value.result c.loop-from.best w.nearer-best.result c.if-marked.best c.loop-from.invariant
-          (told_mark marked s from c.place-in.result true c.place-in.ensures w.if-marked.ensures) w.distance-in-value.ensures w.nearer-best.ensures w.best-is
+      | then-marked w ↦ on_from_marked near s marks c.args.at from w.distance_in-value.result c.loop-from.best w.nearer-best.result c.if-marked.best c.loop-from.invariant
+          (told_mark marked s from c.place_in.result true c.place_in.ensures w.if-marked.ensures) w.distance_in-value.ensures w.nearer-best.ensures w.best-is
       | else-marked w ↦ on_from_unmarked near s marks c.args.at from c.loop-from.best c.if-marked.best c.loop-from.invariant
-          (told_mark marked s from c.place-in.result false c.place-in.ensures w.if-marked.ensures) w.best-is
+          (told_mark marked s from c.place_in.result false c.place_in.ensures w.if-marked.ensures) w.best-is
     ]
 
 pub returns : goal.returns

@@ -8,8 +8,8 @@ use Rattle.job.proofs.passes.copy_picture.Goals as goal
 pub loop-k-init : goal.loop-k-init
 loop-k-init g c = (λ k h. absurd (omega arith), sym (first_place c.args.space.sizes c.args.space.grid))
 
-pub next-in-place-requires : goal.next-in-place-requires
-next-in-place-requires g c =
+pub next_in-place-requires : goal.next_in-place-requires
+next_in-place-requires g c =
     record {
       grid = c.args.space.grid;
       within = placed_inside c.args.space.sizes c.args.space.grid c.loop-k.k c.loop-k.place c.loop-k.invariant.1 (omega (arith, c.loop-k-test.true));
@@ -21,7 +21,7 @@ loop-k-preserved g c =
     let sizes = c.args.space.sizes in (
       written_more (λ k. painted (marks_by_number sizes marks k) k) c.loop-k.cells c.loop-k.k c.loop-k.invariant.0 c.painted.result (omega arith)
           (c.painted.ensures ∙ ap (λ b. painted b c.loop-k.k) (c.marked.ensures ∙ ap marks c.loop-k.invariant.1)),
-      next_placed sizes c.args.space.grid c.loop-k.k c.loop-k.place c.loop-k.invariant.1 _ c.next-in-place.ensures,
+      next_placed sizes c.args.space.grid c.loop-k.k c.loop-k.place c.loop-k.invariant.1 _ c.next_in-place.ensures,
     )
 
 pub returns : goal.returns

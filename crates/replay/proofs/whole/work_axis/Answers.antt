@@ -13,7 +13,7 @@ pub unreachable-requires : goal.unreachable-requires
 unreachable-requires g c =
     let job = c.args.job.now in
     let h = c.in-Err.ensures in
-    let below : c.loop-number.number < row_count c.args.job.now.space.sizes c.args.job.now.axis.number = omega (arith, c.row-count-count.ensures) in
+    let below : c.loop-number.number < row_count c.args.job.now.space.sizes c.args.job.now.axis.number = omega (arith, c.row_count-count.ensures) in
     never_refused _ _
     (sweep_open (g.R.Rule.ceiling job.rule) (g.R.Rule.near job.rule) (g.met.R.Rule.order job.rule) (g.met.R.Rule.bounded job.rule) job.space.sizes job.space.grid job.axis.number job.axis.on
     c.args.cells.now c.loop-number.number c.loop-number.cells below c.loop-number.invariant)
@@ -23,13 +23,13 @@ pub loop-number-preserved : goal.loop-number-preserved
 loop-number-preserved g c =
     let job = c.args.job.now in
     let h = c.in-Ok.ensures in
-    let below : c.loop-number.number < row_count c.args.job.now.space.sizes c.args.job.now.axis.number = omega (arith, c.row-count-count.ensures) in
+    let below : c.loop-number.number < row_count c.args.job.now.space.sizes c.args.job.now.axis.number = omega (arith, c.row_count-count.ensures) in
     sweep_more (g.R.Rule.ceiling job.rule) (g.R.Rule.near job.rule) (g.met.R.Rule.order job.rule) (g.met.R.Rule.bounded job.rule) job.space.sizes job.space.grid job.axis.number job.axis.on
-    c.args.cells.now c.loop-number.number c.loop-number.cells below c.loop-number.invariant c.row-in.new.cells h.1
+    c.args.cells.now c.loop-number.number c.loop-number.cells below c.loop-number.invariant c.row_in.new.cells h.1
 
 pub returns : goal.returns
 returns g c =
     let job = c.args.job.now in
-    let all : c.loop-number.number ≡ row_count c.args.job.now.space.sizes c.args.job.now.axis.number = omega (arith, c.row-count-count.ensures) in
+    let all : c.loop-number.number ≡ row_count c.args.job.now.space.sizes c.args.job.now.axis.number = omega (arith, c.row_count-count.ensures) in
     sweep_all (g.R.Rule.ceiling job.rule) (g.R.Rule.near job.rule) (g.met.R.Rule.order job.rule) (g.met.R.Rule.bounded job.rule) job.space.sizes job.space.grid job.axis.number job.axis.on
     c.args.cells.now c.loop-number.number c.loop-number.cells all c.loop-number.invariant

@@ -1,12 +1,11 @@
 use Rattle.std.proofs.Common.{◌≡◌, ◌+◌, ◌-◌, ◌<◌, ◌≤◌, Some, sym, refl, ap, ◌∙◌, subst, subst₂, arith}
-use Rattle.grid.specs.RowDoors.{row_cells_door}
 use Rattle.grid.specs.RowGeometry.{row_at}
 use Rattle.grid.specs.Rows.{RowAt, RowBelow, records}
 use Rattle.grid.proofs.RowDoors.{door_level, door_open}
 use Rattle.rows.specs.Stacks.{stacked, Gathered}
 use Rattle.rows.proofs.Steps.{gathered_none, gathered_skip, gathered_add, all_within, one_more, large_refused}
 use Rattle.rows.proofs.gather.gather.Goals as goal
-use Rattle.rows.proofs.gather.gather.Goals.{in-Some, in-default}
+use Rattle.rows.proofs.gather.gather.Goals.{in-Some, in_default}
 
 pub loop-j-init : goal.loop-j-init
 loop-j-init g c = (
@@ -23,8 +22,8 @@ returns-then-cell-axis g c =
     door_level c.args.row.count row (c.args.axis - 1) most c.loop-j.j c.loop-j-test.true
     (λ e. omega (arith, found, c.if-cell-axis.true))
 
-pub refusal-past-requires : goal.refusal-past-requires
-refusal-past-requires g c =
+pub refusal_past-requires : goal.refusal_past-requires
+refusal_past-requires g c =
     let row = records c.args.cells.now (row_at c.args.row) in
     let here : (row c.loop-j.j).level ≡ c.args.axis - 1 = sym (ap (λ cell. cell.level) c.load-cell.ensures) ∙ c.if-cell-axis.false in
     record {
@@ -38,9 +37,9 @@ returns-then-cell-most g c =
     let most = g.R.Rule.ceiling c.args.rule.now (c.args.axis - 1) in
     let row = records c.args.cells.now (row_at c.args.row) in
     let found = ap (λ cell. cell.value) c.load-cell.ensures in
-    let large : most < (row c.loop-j.j).value = omega (arith, found, c.most-on-most.ensures, c.if-cell-most.true) in
+    let large : most < (row c.loop-j.j).value = omega (arith, found, c.most_on-most.ensures, c.if-cell-most.true) in
     large_refused c.args.row.count row (c.args.axis - 1) most c.loop-j.j c.loop-j-test.true large
-    ∙ ap Some (sym c.refusal-past.ensures)
+    ∙ ap Some (sym c.refusal_past.ensures)
 
 pub add-len-requires : goal.add-len-requires
 add-len-requires g c =
@@ -50,7 +49,7 @@ add-len-requires g c =
       axis = c.requires.axis;
       inside = omega (arith, c.loop-j.invariant.2.few);
       count = (c.requires.row.few_places, c.requires.row.not_empty);
-      new = record { before = omega (arith, c.requires.row.few_places); carried = omega (arith, c.most-on-most.ensures, c.if-cell-most.false) };
+      new = record { before = omega (arith, c.requires.row.few_places); carried = omega (arith, c.most_on-most.ensures, c.if-cell-most.false) };
       lined = c.loop-j.invariant.2.lined;
       below = all_within c.args.row.count row most c.loop-j.j c.loop-j.invariant.1 (stacked c.loop-j.stack c.loop-j.len) c.loop-j.invariant.2.points;
     }
@@ -64,7 +63,7 @@ loop-j-preserved g c =
     let j = c.loop-j.j in
     let found = c.load-cell.ensures in
     let here : (row j).level ≡ c.args.axis - 1 = sym (ap (λ cell. cell.level) found) ∙ c.if-cell-axis.false in
-    let low : (row j).value ≤ most = omega (arith, ap (λ cell. cell.value) found, c.most-on-most.ensures, c.if-cell-most.false) in (
+    let low : (row j).value ≤ most = omega (arith, ap (λ cell. cell.value) found, c.most_on-most.ensures, c.if-cell-most.false) in (
       one_more (λ i. (row i).level ≡ c.args.axis - 1) j c.loop-j.invariant.0 here,
       one_more (λ i. (row i).value ≤ most) j c.loop-j.invariant.1 low,
       elim c.match-cell.branch [
@@ -74,9 +73,9 @@ loop-j-preserved g c =
             (record { place = j; start = 0; point = w.in-Some.point; value = c.load-cell.result.value })
             w.add-len.new.stack w.add-len.result c.loop-j-test.true c.loop-j.invariant.2 refl
             (ap (λ cell. cell.value) found) (sym (ap (λ cell. cell.point) found) ∙ w.in-Some.is) w.add-len.ensures)
-        | in-default w ↦
+        | in_default w ↦
             subst₂ (λ s len. Gathered near n row (j + 1) s len) (sym w.stack-is) (sym w.len-is)
-            (gathered_skip near n row j c.loop-j.stack c.loop-j.len c.loop-j.invariant.2 (sym (ap (λ cell. cell.point) found) ∙ w.in-default.is))
+            (gathered_skip near n row j c.loop-j.stack c.loop-j.len c.loop-j.invariant.2 (sym (ap (λ cell. cell.point) found) ∙ w.in_default.is))
       ],
     )
 

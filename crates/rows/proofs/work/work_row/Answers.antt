@@ -10,7 +10,7 @@ pub serve-requires : goal.serve-requires
 serve-requires g c =
     let most = g.R.Rule.ceiling c.args.rule.now (c.args.axis - 1) in
     let row = records c.args.cells.now (row_at c.args.row) in
-    let gathered = c.in-ok-len.ensures in
+    let gathered = c.in_ok-len.ensures in
     record {
       axis = c.requires.axis;
       row = c.requires.row;
@@ -26,7 +26,7 @@ returns-then-len-eq0 g c =
     let row = c.args.row in
     let old = c.args.cells.now in
     let stack = c.gather.new.stack in
-    let gathered = c.in-ok-len.ensures in (
+    let gathered = c.in_ok-len.ensures in (
       gathered.0,
       cleared_done near d row old c.requires.row.not_empty stack
           (subst (λ len. Gathered (near d) row.count (records old (row_at row)) row.count stack len) c.if-len-eq0.true gathered.1)

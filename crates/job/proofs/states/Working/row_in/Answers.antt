@@ -4,14 +4,14 @@ use Rattle.grid.specs.RowGeometry.{row_count}
 use Rattle.job.proofs.RowWork.{lies, works_row}
 use Rattle.job.proofs.states.Working.row_in.Goals as goal
 
-pub work-row-requires : goal.work-row-requires
-work-row-requires g c =
+pub work_row-requires : goal.work_row-requires
+work_row-requires g c =
     let job = c.args.self.now in
     let fits : length c.args.cells.now ≡ cell_count job.space.sizes = search rules in
     let below : c.args.number < row_count job.space.sizes job.axis.number = search rules in
     record {
       axis = job.axis.on;
-      row = lies job.space.sizes job.axis.number c.args.number job.axis.on c.args.cells.now fits below c.row-in-row.result c.row-in-row.ensures job.space.grid;
+      row = lies job.space.sizes job.axis.number c.args.number job.axis.on c.args.cells.now fits below c.row_in-row.result c.row_in-row.ensures job.space.grid;
     }
 
 pub returns : goal.returns
@@ -19,5 +19,5 @@ returns g c =
     let job = c.args.self.now in
     let fits : length c.args.cells.now ≡ cell_count job.space.sizes = search rules in
     let below : c.args.number < row_count job.space.sizes job.axis.number = search rules in
-    works_row job.space.sizes job.axis.number c.args.number job.axis.on c.args.cells.now fits below c.row-in-row.result c.row-in-row.ensures
-    (g.R.Rule.near job.rule) (g.R.Rule.ceiling job.rule) c.work-row.result c.work-row.new.cells c.work-row.ensures
+    works_row job.space.sizes job.axis.number c.args.number job.axis.on c.args.cells.now fits below c.row_in-row.result c.row_in-row.ensures
+    (g.R.Rule.near job.rule) (g.R.Rule.ceiling job.rule) c.work_row.result c.work_row.new.cells c.work_row.ensures
