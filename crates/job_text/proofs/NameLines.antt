@@ -1,5 +1,5 @@
 -- A text has at most one line of names: each name with its ending is read in one way only.
-use Rattle.std.proofs.Common.{◌≡◌, ℕ, List, [], ◌∷◌, ◌++◌, map, sym, refl, ap, ◌∙◌, append_assoc, arith}
+use Rattle.std.proofs.Common.{◌≡◌, ℕ, List, ◌∷◌, ◌++◌, sym, refl, ◌∙◌, append_assoc, arith}
 use Rattle.job_text.specs.declared.columns.Column.{Column}
 use Rattle.job_text.specs.declared.columns.Column.TheVariants.{Rule, Sx, Sy, Sz}
 use Rattle.job_text.specs.declared.columns.Order.{Order}

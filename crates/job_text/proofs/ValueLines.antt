@@ -1,5 +1,5 @@
 -- A text has at most one line of values in a given order of the columns.
-use Rattle.std.proofs.Common.{◌≡◌, ℕ, ◌<◌, ◌≢◌, List, [], ◌∷◌, ◌++◌, sym, refl, ap, ◌∙◌, subst, append_assoc, arith}
+use Rattle.std.proofs.Common.{◌≡◌, ℕ, ◌<◌, ◌≢◌, List, ◌∷◌, ◌++◌, sym, refl, ap, ◌∙◌, append_assoc, arith}
 use Rattle.numerals.specs.Numerals.{numeral}
 use Rattle.numerals.proofs.Reading.{reads_same}
 use Rattle.job_text.specs.declared.columns.Column.{Column}

@@ -1,5 +1,5 @@
 -- One number more on a line, and one line more of a report.
-use Rattle.std.proofs.Common.{◌≡◌, ℕ, zero, suc, ◌+◌, ◌<◌, ◌≤◌, List, [], ◌∷◌, ◌++◌, map, length, get_or, drop, Some, None, codes, decimal, Option, sym, refl, ap, ◌∙◌, append_assoc, append-nil, add-one, arith, length-drop, drop-cons, below_more}
+use Rattle.std.proofs.Common.{◌≡◌, ℕ, ◌+◌, ◌<◌, ◌≤◌, List, [], ◌∷◌, ◌++◌, map, length, get_or, drop, Some, None, codes, decimal, Option, sym, ap, ◌∙◌, append_assoc, append-nil, add-one, arith, length-drop, drop-cons, below_more}
 use Rattle.std.proofs.lemmas.List.{drop_all}
 use Rattle.grid.specs.declared.cell.Cell.{Cell}
 use Rattle.grid.specs.declared.sizes.Sizes.{Sizes}

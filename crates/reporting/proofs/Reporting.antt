@@ -9,7 +9,7 @@ use Rattle.replay.specs.Whole.{field_door}
 use Rattle.reporting.specs.declared.faults.ReportFault.TheVariants.{Field}
 use Rattle.grid.specs.declared.cell.Cell.{Cell}
 use Rattle.grid.specs.declared.sizes.Sizes.{Sizes}
-use Rattle.grid.specs.Geometry.{Place, IsGrid, cell_count}
+use Rattle.grid.specs.Geometry.{Place, cell_count}
 use Rattle.grid.specs.Distance.{Near}
 use Rattle.grid.specs.Cells.{Marks, Answers, FinishedField, cell_at}
 use Rattle.pictures.specs.Numbered.{marks_by_number}
@@ -17,7 +17,7 @@ use Rattle.pbm.specs.declared.faults.StackFault.{StackFault}
 use Rattle.pbm.specs.declared.stack.Stack.{Stack}
 use Rattle.pbm.specs.Causes.{counted_from}
 use Rattle.pbm.specs.Faults.{FaultyBytes}
-use Rattle.pbm.specs.Marks.{stack_extent, stack_marks, stack_cells}
+use Rattle.pbm.specs.Marks.{stack_extent, stack_marks}
 use Rattle.pbm.specs.Promises.{Shows}
 use Rattle.rules.specs.declared.spacings.Spacings.{Spacings}
 use Rattle.rules.specs.Formulas.{HasSpacings}
@@ -28,8 +28,8 @@ use Rattle.job_text.specs.declared.settings.RuleName.{RuleName}
 use Rattle.job_text.specs.declared.settings.Settings.{Settings}
 use Rattle.job_text.specs.Jobs.{IsJob}
 use Rattle.job_text.proofs.Lengths.{stack_length}
-use Rattle.reporting.specs.Texts.{PrintsField, NoPoint, LacksPoint}
-use Rattle.reporting.specs.Reports.{SettingsFit, near_of, ReportsField, ReportsStack, Unmarked, NoField, Sound, ReportsInput, FaultyStack, TooLarge, SoundInput, NothingMarked, FaultyInput, Refuses}
+use Rattle.reporting.specs.Texts.{NoPoint, LacksPoint}
+use Rattle.reporting.specs.Reports.{SettingsFit, near_of, ReportsField, ReportsStack, Unmarked, NoField, Sound, ReportsInput, FaultyStack, TooLarge, FaultyInput, Refuses}
 
 -- a finished field in which a cell has no point has no mark
 pub unmarked_from_no_point : (near : Near) (s : Sizes) (marks : Marks) (cells : List Cell) → FinishedField near s marks cells → NoPoint cells → Unmarked s marks

@@ -3,9 +3,9 @@
 
 mod crossings;
 mod dice;
-mod fields;
 mod images;
 mod signs;
+mod whole_fields;
 
 use anyhow::anyhow;
 use dice::Dice;
@@ -26,7 +26,7 @@ fn run(rt: &HostRuntime) -> anyhow::Result<()> {
     let (seed, rounds) = read_numbers(rt)?;
     let mut dice = Dice::new(seed);
     let heap = rt.alloc();
-    let cells = fields::compare(heap, &mut dice, rounds)?;
+    let cells = whole_fields::compare(heap, &mut dice, rounds)?;
     println!(rt; "fields: {rounds} pictures under each rule, {cells} cells, all agree")?;
     let numbers = signs::compare(heap, &mut dice, rounds)?;
     println!(rt; "signed fields: {rounds} pictures under each rule, {numbers} numbers, all agree")?;

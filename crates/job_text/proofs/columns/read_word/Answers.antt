@@ -3,7 +3,7 @@ use Rattle.job_text.proofs.columns.read_word.Goals as goal
 
 pub returns : goal.returns
 returns c =
-    let e = c.in-ok-rest.ensures in
-    option_weaker c.after-ending.result c.after-ending.ensures
+    let e = c.in_ok-rest.ensures in
+    option_weaker c.after_ending.result c.after_ending.ensures
     (no_word_then _ _ _ _ e)
     (λ rest h. word_then _ _ _ _ rest.now e h)

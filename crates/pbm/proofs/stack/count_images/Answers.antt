@@ -7,17 +7,17 @@ use Rattle.pbm.proofs.stack.count_images.Goals as goal
 above_0 : (n : ℕ) → (n ≡ 0 → ⊥) → 0 < n
 above_0 n h = omega arith
 
-pub overflow-add-result : goal.overflow-add-result
-overflow-add-result c = omega (arith, c.images.invariant.0.room, fault_in_image c.images.rest.now c.args.width c.args.height c.in-Err.fault.cause c.in-Err.fault.byte c.in-Err.ensures)
+pub overflow_add-result : goal.overflow_add-result
+overflow_add-result c = omega (arith, c.images.invariant.0.room, fault_in_image c.images.rest.now c.args.width c.args.height c.in-Err.fault.cause c.in-Err.fault.byte c.in-Err.ensures)
 
 pub returns-in-Err : goal.returns-in-Err
 returns-in-Err c =
     inl (next_faulty c.args.bytes.now c.images.rest.now c.requires.0 c.args.width c.args.height _ c.in-Err.fault.byte c.requires.1 c.images.invariant.0 c.images.invariant.1 refl c.in-Err.ensures)
 
-pub returns-then-is-empty : goal.returns-then-is-empty
-returns-then-is-empty c =
+pub returns-then-is_empty : goal.returns-then-is_empty
+returns-then-is_empty c =
     let more = c.in-Ok.more.now in
-    let none = nil_from_length more (eqb-true (length more) 0 (sym c.is-empty.ensures ∙ c.if-is-empty.true)) in
+    let none = nil_from_length more (eqb-true (length more) 0 (sym c.is_empty.ensures ∙ c.if-is_empty.true)) in
     passed_all c.args.bytes.now c.images.rest.now c.requires.0 more c.args.width c.args.height c.images.images c.requires.1 c.images.invariant.0 c.in-Ok.ensures none
 
 pub images-smaller : goal.images-smaller
@@ -27,5 +27,5 @@ pub images-preserved : goal.images-preserved
 images-preserved c =
     let more = c.in-Ok.more.now in (
       passed_more c.args.bytes.now c.images.rest.now more c.args.width c.args.height c.images.images c.images.invariant.0 c.in-Ok.ensures,
-      λ _. above_0 (length more) (eqb-false (length more) 0 (sym c.is-empty.ensures ∙ c.if-is-empty.false)),
+      λ _. above_0 (length more) (eqb-false (length more) 0 (sym c.is_empty.ensures ∙ c.if-is_empty.false)),
     )

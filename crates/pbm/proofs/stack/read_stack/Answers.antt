@@ -10,17 +10,17 @@ use Rattle.pbm.proofs.stack.read_stack.Goals as goal
 pub returns-in-Err : goal.returns-in-Err
 returns-in-Err c = inl (header_faulty c.args.bytes.now _ c.in-Err.fault.byte refl refl c.in-Err.ensures)
 
-pub overflow-sub-skip : goal.overflow-sub-skip
-overflow-sub-skip c = omega (arith, header_length c.args.bytes.now c.in-Ok.header.rest.now c.in-Ok.header.width c.in-Ok.header.height c.in-Ok.ensures)
+pub overflow_sub-skip : goal.overflow_sub-skip
+overflow_sub-skip c = omega (arith, header_length c.args.bytes.now c.in-Ok.header.rest.now c.in-Ok.header.width c.in-Ok.header.height c.in-Ok.ensures)
 
-pub overflow-cast-result : goal.overflow-cast-result
-overflow-cast-result c =
+pub overflow_cast-result : goal.overflow_cast-result
+overflow_cast-result c =
     let header = c.in-Ok.header in
     let o = c.in-Ok.ensures in
     omega (arith, header_length c.args.bytes.now header.rest.now header.width header.height o, header_short header.width header.height o.width o.height)
 
-pub overflow-cast-result-2 : goal.overflow-cast-result-2
-overflow-cast-result-2 c =
+pub overflow_cast-result-2 : goal.overflow_cast-result-2
+overflow_cast-result-2 c =
     let header = c.in-Ok.header in
     let o = c.in-Ok.ensures in
     omega (
@@ -41,7 +41,7 @@ returns c =
     subst P (sym sizes.1)
     (shows _ (record {
       over = refl;
-      form = c.in-ok-images.ensures;
+      form = c.in_ok-images.ensures;
       grid = sizes.0;
       skip = omega (arith, header_length c.args.bytes.now header.rest.now header.width header.height o);
       stride = ap (λ x. skip + x * header.height) c.row_bytes.ensures;

@@ -9,8 +9,8 @@ use Rattle.reporting.proofs.field.report_cells.Goals as goal
 pub returns-in-Ok : goal.returns-in-Ok
 returns-in-Ok g c =
     let found = c.in-Ok.ensures.2 in
-    let cells = c.find-field.new.cells in
-    MatchResult-weaker c.field-text.result c.field-text.ensures
+    let cells = c.find_field.new.cells in
+    MatchResult-weaker c.field_text.result c.field_text.ensures
     (λ t printed. record { cells = cells; finished = found; printed = subst (λ (n : Sizes). PrintsField c.args.name n cells (string_bytes t)) c.sizes.ensures printed })
     (no_field_from_no_point _ _ _ _ found)
 

@@ -5,8 +5,8 @@ use Rattle.reporting.proofs.text.push_numbers.Goals.{then-i-numbers, else-i-numb
 
 pub loop-i-preserved : goal.loop-i-preserved
 loop-i-preserved c =
-    let number = c.in-ok-push-number.ensures in
-    let ended = c.in-ok-push-str.ensures.bytes in
+    let number = c.in_ok-push_number.ensures in
+    let ended = c.in_ok-push_str.ensures.bytes in
     elim c.if-i-numbers.branch [
       | then-i-numbers w ↦ pushed_space _ _ _ _ _ c.args.numbers.now c.loop-i.i number ended c.loop-i.invariant (ap (λ x. x.now) w.end-is) w.if-i-numbers.true
       | else-i-numbers w ↦ pushed_line_feed _ _ _ _ _ c.args.numbers.now c.loop-i.i number ended c.loop-i.invariant (ap (λ x. x.now) w.end-is) c.loop-i-test.true w.if-i-numbers.false

@@ -18,8 +18,8 @@ loop-k-init g c =
     let p = c.args.picture.now in
     (λ k h. absurd (omega arith), sym (first_place c.sizes-sizes.result (grid_told _ _ c.sizes-sizes.ensures (g.P.Picture.lawful.grid p))))
 
-pub number-at-requires : goal.number-at-requires
-number-at-requires g c =
+pub number_at-requires : goal.number_at-requires
+number_at-requires g c =
     let p = c.args.picture.now in
     let s = c.sizes-sizes.result in
     record {
@@ -28,8 +28,8 @@ number-at-requires g c =
           (placed_inside s (grid_told s _ c.sizes-sizes.ensures (g.P.Picture.lawful.grid p)) c.loop-k.k c.loop-k.place c.loop-k.invariant.1 c.loop-k-test.true);
     }
 
-pub next-in-place-requires : goal.next-in-place-requires
-next-in-place-requires g c =
+pub next_in-place-requires : goal.next_in-place-requires
+next_in-place-requires g c =
     let p = c.args.picture.now in
     let s = c.sizes-sizes.result in
     let grid = grid_told s _ c.sizes-sizes.ensures (g.P.Picture.lawful.grid p) in
@@ -40,14 +40,14 @@ loop-k-preserved g c =
     let p = c.args.picture.now in
     let s = c.sizes-sizes.result in
     let grid = grid_told s _ c.sizes-sizes.ensures (g.P.Picture.lawful.grid p) in
-    let fits : SFits w64 c.number-at.result = search rules in
+    let fits : SFits w64 c.number_at.result = search rules in
     let lt : c.loop-k.k < length c.loop-k.output = omega (arith, c.requires.room, ap cell_count c.sizes-sizes.ensures) in (
       below_more _ _
           (λ k h. let ne : k ≢ c.loop-k.k = omega arith in rw get_or-set_other (c.loop-k.invariant.0 k h))
-          (rw get_or-set_same (to_z-of_z w64 c.number-at.result fits
+          (rw get_or-set_same (to_z-of_z w64 c.number_at.result fits
           ∙ number_read s (g.P.Picture.extent p) c.sizes-sizes.ensures c.loop-k.place c.loop-k.k c.loop-k.invariant.1
-          (g.P.Picture.marks p) c.args.cells.now c.args.half c.requires.field.sizes c.number-at.result c.number-at.ensures)),
-      next_placed s grid c.loop-k.k c.loop-k.place c.loop-k.invariant.1 _ c.next-in-place.ensures,
+          (g.P.Picture.marks p) c.args.cells.now c.args.half c.requires.field.sizes c.number_at.result c.number_at.ensures)),
+      next_placed s grid c.loop-k.k c.loop-k.place c.loop-k.invariant.1 _ c.next_in-place.ensures,
     )
 
 pub returns : goal.returns

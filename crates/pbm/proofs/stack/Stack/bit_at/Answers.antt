@@ -3,8 +3,8 @@ use Rattle.std.proofs.lemmas.Nat.{mul-le}
 use Rattle.grid.proofs.Places.{below_from_inside}
 use Rattle.pbm.proofs.stack.Stack.bit_at.Goals as goal
 
-pub overflow-add-at : goal.overflow-add-at
-overflow-add-at c =
+pub overflow_add-at : goal.overflow_add-at
+overflow_add-at c =
     let sizes = c.args.sizes in
     let grid = c.requires.grid in
     let b = below_from_inside sizes c.args.place c.requires.within in

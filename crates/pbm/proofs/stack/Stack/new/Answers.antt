@@ -5,8 +5,8 @@ pub returns : goal.returns
 returns c =
     let bytes = c.args.bytes.now in
     record {
-      cases = c.read-stack.ensures;
-      accepts = read.accepts bytes c.read-stack.result c.read-stack.ensures;
-      tells = read.tells bytes c.read-stack.result c.read-stack.ensures;
-      within = read.within bytes c.read-stack.result c.read-stack.ensures;
+      cases = c.read_stack.ensures;
+      accepts = read.accepts bytes c.read_stack.result c.read_stack.ensures;
+      tells = read.tells bytes c.read_stack.result c.read_stack.ensures;
+      within = read.within bytes c.read_stack.result c.read_stack.ensures;
     }
