@@ -1,4 +1,4 @@
 use Rattle.cadzvigu.proofs.exports.cadzvigu_signed.Goals as goal
 
 pub returns : goal.returns
-returns c = record { outcome = c.signed-distances.result; number = c.status.ensures; ends = c.signed-distances.ensures }
+returns c = record { outcome = c.signed_distances.result; number = c.status.ensures; ends = c.signed_distances.ensures }

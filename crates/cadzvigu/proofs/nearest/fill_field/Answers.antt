@@ -3,15 +3,15 @@ use Rattle.replay.proofs.Sweep.{never_refused, field_open}
 use Rattle.cadzvigu.proofs.Copying.{all_reached, copied_field}
 use Rattle.cadzvigu.proofs.nearest.fill_field.Goals as goal
 
-pub write-field-requires : goal.write-field-requires
-write-field-requires g c =
+pub write_field-requires : goal.write_field-requires
+write_field-requires g c =
     let p = c.args.picture.now in
     let field = c.in-Ok.ensures.2 in
     let same = sym field.all_hold.one_each in
     record {
       values = c.requires.values ∙ same;
       points = c.requires.points ∙ same;
-      reached = all_reached (g.R.Rule.near c.args.rule) (g.P.Picture.extent p) (g.P.Picture.marks p) c.find-field.new.cells field c.requires.mark;
+      reached = all_reached (g.R.Rule.near c.args.rule) (g.P.Picture.extent p) (g.P.Picture.marks p) c.find_field.new.cells field c.requires.mark;
     }
 
 pub unreachable-requires : goal.unreachable-requires
@@ -22,4 +22,4 @@ unreachable-requires g c =
 pub returns : goal.returns
 returns g c =
     let p = c.args.picture.now in
-    copied_field (g.R.Rule.near c.args.rule) (g.P.Picture.extent p) (g.P.Picture.marks p) c.find-field.new.cells c.in-Ok.ensures.2 _ _ c.write-field.ensures
+    copied_field (g.R.Rule.near c.args.rule) (g.P.Picture.extent p) (g.P.Picture.marks p) c.find_field.new.cells c.in-Ok.ensures.2 _ _ c.write_field.ensures

@@ -7,21 +7,21 @@ use Rattle.cadzvigu.proofs.skin.signed_distances.Goals as goal
 
 pub returns-in-ok-square : goal.returns-in-ok-square
 returns-in-ok-square c =
-    let named = c.in-ok-of-number.ensures ∙ ap rule_number c.in-Square.is in
+    let named = c.in_ok-of_number.ensures ∙ ap rule_number c.in-Square.is in
     let made = c.in-ok-square.ensures in
-    under_rule c.signed-of-bytes.result c.args.rule Square named c.args.spacings made.0 (signed_questions c.args.sizes c.args.bytes.now (length c.args.numbers.now)) _ _ _
-    (λ field. record { kind = Square; numbered = named; over = c.in-ok-square.square.spacings; as_given = made.1; field = field }) c.signed-of-bytes.ensures
+    under_rule c.signed_of_bytes.result c.args.rule Square named c.args.spacings made.0 (signed_questions c.args.sizes c.args.bytes.now (length c.args.numbers.now)) _ _ _
+    (λ field. record { kind = Square; numbered = named; over = c.in-ok-square.square.spacings; as_given = made.1; field = field }) c.signed_of_bytes.ensures
 
 pub returns-in-ok-block : goal.returns-in-ok-block
 returns-in-ok-block c =
-    let named = c.in-ok-of-number.ensures ∙ ap rule_number c.in-Block.is in
+    let named = c.in_ok-of_number.ensures ∙ ap rule_number c.in-Block.is in
     let made = c.in-ok-block.ensures in
-    under_rule c.signed-of-bytes-in-Block.result c.args.rule Block named c.args.spacings made.0 (signed_questions c.args.sizes c.args.bytes.now (length c.args.numbers.now)) _ _ _
-    (λ field. record { kind = Block; numbered = named; over = c.in-ok-block.block.spacings; as_given = made.1; field = field }) c.signed-of-bytes-in-Block.ensures
+    under_rule c.signed_of_bytes-in-Block.result c.args.rule Block named c.args.spacings made.0 (signed_questions c.args.sizes c.args.bytes.now (length c.args.numbers.now)) _ _ _
+    (λ field. record { kind = Block; numbered = named; over = c.in-ok-block.block.spacings; as_given = made.1; field = field }) c.signed_of_bytes-in-Block.ensures
 
 pub returns-in-ok-chess : goal.returns-in-ok-chess
 returns-in-ok-chess c =
-    let named = c.in-ok-of-number.ensures ∙ ap rule_number c.in-Chess.is in
+    let named = c.in_ok-of_number.ensures ∙ ap rule_number c.in-Chess.is in
     let made = c.in-ok-chess.ensures in
-    under_rule c.signed-of-bytes-in-Chess.result c.args.rule Chess named c.args.spacings made.0 (signed_questions c.args.sizes c.args.bytes.now (length c.args.numbers.now)) _ _ _
-    (λ field. record { kind = Chess; numbered = named; over = c.in-ok-chess.chess.spacings; as_given = made.1; field = field }) c.signed-of-bytes-in-Chess.ensures
+    under_rule c.signed_of_bytes-in-Chess.result c.args.rule Chess named c.args.spacings made.0 (signed_questions c.args.sizes c.args.bytes.now (length c.args.numbers.now)) _ _ _
+    (λ field. record { kind = Chess; numbered = named; over = c.in-ok-chess.chess.spacings; as_given = made.1; field = field }) c.signed_of_bytes-in-Chess.ensures

@@ -10,12 +10,12 @@ use Rattle.volumes.proofs.field.field_of.Goals as goal
 pub returns-in-Ok : goal.returns-in-Ok
 returns-in-Ok g c =
     let p = c.args.picture.now in
-    let last = c.find-field-watched.new.cells in
-    let long : length c.find-field-watched.new.cells ≡ c.in-ok-cells.cells.len = omega arith in
+    let last = c.find_field_watched.new.cells in
+    let long : length c.find_field_watched.new.cells ≡ c.in_ok-cells.cells.len = omega arith in
     let P : List Cell → Type 0 = λ l. FinishedField (g.R.Rule.near c.args.rule) (g.P.Picture.extent p) (marks_by_number (g.P.Picture.extent p) (g.P.Picture.marks p)) l in
     let found = c.in-Ok.ensures in
-    let lent : length c.deref-mut.result.now ≡ cell_count (g.P.Picture.extent c.args.picture.now) = search rules in
+    let lent : length c.deref_mut.result.now ≡ cell_count (g.P.Picture.extent c.args.picture.now) = search rules in
     record {
-      some_mark = sym (lent_open (g.P.Picture.extent p) c.deref-mut.result.now _ lent) ∙ found.0;
+      some_mark = sym (lent_open (g.P.Picture.extent p) c.deref_mut.result.now _ lent) ∙ found.0;
       finished = subst P (sym (take_at last _ _ long)) found.2;
     }

@@ -8,8 +8,8 @@ use Rattle.volumes.proofs.summary.count_marked.Goals.{then-cell, else-cell}
 pub loop-cell-init : goal.loop-cell-init
 loop-cell-init c = sym (count_none _)
 
-pub overflow-add-count : goal.overflow-add-count
-overflow-add-count c = omega (arith, count_at_most (marks_in c.args.cells.now) c.loop-cell.cell-index)
+pub overflow_add-count : goal.overflow_add-count
+overflow_add-count c = omega (arith, count_at_most (marks_in c.args.cells.now) c.loop-cell.cell-index)
 
 pub loop-cell-preserved : goal.loop-cell-preserved
 loop-cell-preserved c =
