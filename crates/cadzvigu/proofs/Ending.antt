@@ -1,5 +1,5 @@
 -- How a call ends behind one door and then behind another.
-use Rattle.std.proofs.Common.{◌≡◌, ℕ, Bool, true, eqb, Some, None, Ok, Err, Option, Result, sym, refl, ap, ◌∙◌, subst}
+use Rattle.std.proofs.Common.{◌≡◌, ℕ, Bool, true, eqb, None, Ok, Err, Option, Result, sym, refl, ap, ◌∙◌, subst}
 use Rattle.std.proofs.lemmas.Bool.{cond-true, eq-eqb}
 use Rattle.grid.specs.declared.refusal.Refusal.{Refusal}
 use Rattle.grid.specs.declared.refusal.Refusal.TheVariants as refusal
@@ -9,7 +9,6 @@ use Rattle.grid.specs.Doors.{unless}
 use Rattle.rules.specs.Doors.{spacing_door}
 use Rattle.signed.specs.Doors.{and_then, both_kinds}
 use Rattle.cadzvigu.specs.declared.fault.Fault.{Fault}
-use Rattle.cadzvigu.specs.declared.fault.Fault.TheVariants.{Refused}
 use Rattle.cadzvigu.specs.declared.rule_kind.RuleKind.{RuleKind}
 use Rattle.cadzvigu.specs.declared.rule_kind.RuleKind.TheVariants.{Square, Block, Chess}
 use Rattle.cadzvigu.specs.Doors.{refused_by, call_door, numbers_door}

@@ -46,7 +46,7 @@ impl Fault {
 }
 
 /// The status of a call: 0, or the number of its fault.
-pub(crate) fn status(outcome: Result<(), Fault>) -> u32
+pub fn status(outcome: Result<(), Fault>) -> u32
     ensures { result ≡ status_number outcome }
 {
     match outcome {

@@ -1,16 +1,16 @@
-//! The library for C, C++ and Python: two exported functions over plain arrays. Each takes the sizes of a grid, a byte for each
-//! cell and arrays for the answers, and answers a status number. The memory for the cells is taken and given back inside.
+//! The library over plain arrays: two functions that take the sizes of a grid, a byte for each cell and arrays for the answers.
+//! The memory for the cells is taken and given back inside. The crate `cadzvigu_c` exports them to C, C++ and Python.
 #![tactic(auto)]
 
-mod exports;
 mod fault;
-mod nearest;
+mod nearest_points;
 mod rule_kind;
 mod skin;
 mod theorems;
 mod writing;
 
-pub use exports::{cadzvigu_nearest, cadzvigu_signed};
-pub use fault::Fault;
+pub use fault::{Fault, status};
+pub use nearest_points::nearest;
 pub use rule_kind::RuleKind;
+pub use skin::signed_distances;
 pub use theorems::statuses_differ;

@@ -89,7 +89,7 @@ fn signed_of_bytes<R: Rule + Drop>(
 }
 
 /// The same under the rule with a number and three spacings.
-pub(crate) fn signed_distances(
+pub fn signed_distances(
     heap: Global,
     rule: u32,
     spacings: (u32, u32, u32),

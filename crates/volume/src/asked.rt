@@ -61,6 +61,6 @@ pub fn read_words(words: &[String]) -> anyhow::Result<Asked<'_>> {
             input,
             output,
         }),
-        Err(column) => Err(word_fault(column).into()),
+        Err(column) => Err(anyhow!(word_fault(column))),
     }
 }

@@ -19,7 +19,7 @@ pub fn read_input(rt: &HostRuntime, path: &str) -> anyhow::Result<Vec<u8>> {
 }
 
 fn unfit() -> io::Error {
-    io::Error::from_static_message(io::ErrorKind::InvalidInput, "a chunk does not fit")
+    io::Error::new(io::ErrorKind::InvalidInput, "a chunk does not fit")
 }
 
 /// Writes the value of each cell.

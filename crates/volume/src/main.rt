@@ -9,6 +9,7 @@ mod faults;
 mod file;
 mod told;
 
+use anyhow::anyhow;
 use asked::{Asked, USAGE, asks_for_help, read_words};
 use clock::{Progress, Stopwatch};
 use faults::fault_text;
@@ -22,7 +23,7 @@ fn find(rt: &HostRuntime, asked: &Asked, input: &[u8]) -> anyhow::Result<Volume>
     let mut progress = Progress::new(rt);
     match find_volume(rt.alloc(), asked.settings, input, &mut progress) {
         Ok(volume) => Ok(volume),
-        Err(fault) => Err(fault_text(rt.alloc(), fault)?.into()),
+        Err(fault) => Err(anyhow!(fault_text(rt.alloc(), fault)?)),
     }
 }
 

@@ -5,9 +5,7 @@ ghost use Rattle.cadzvigu.specs.Nearests.{NearestBy};
 ghost use Rattle.cadzvigu.specs.Skins.{SignedBy};
 ghost use Rattle.cadzvigu.specs.Statuses.{Tells};
 
-use crate::fault::status;
-use crate::nearest::nearest;
-use crate::skin::signed_distances;
+use cadzvigu::{nearest, signed_distances, status};
 use grid::Sizes;
 use std::alloc::Global;
 

@@ -1,7 +1,7 @@
 use Rattle.std.proofs.Common.{sym, ◌∙◌}
 use Rattle.replay.proofs.Sweep.{never_refused, field_open}
 use Rattle.cadzvigu.proofs.Copying.{all_reached, copied_field}
-use Rattle.cadzvigu.proofs.nearest.fill_field.Goals as goal
+use Rattle.cadzvigu.proofs.nearest_points.fill_field.Goals as goal
 
 pub write_field-requires : goal.write_field-requires
 write_field-requires g c =

@@ -77,7 +77,7 @@ fn nearest_of_bytes<R: Rule + Drop>(
 }
 
 /// The same under the rule with a number and three spacings.
-pub(crate) fn nearest(
+pub fn nearest(
     heap: Global,
     rule: u32,
     spacings: (u32, u32, u32),

@@ -4,7 +4,7 @@ use Rattle.pictures.specs.Numbered.{marks_by_number}
 use Rattle.std.proofs.lemmas.Result.{err_from_is_err_and}
 use Rattle.cadzvigu.specs.Doors.{refused_by, field_questions}
 use Rattle.cadzvigu.proofs.Copying.{with_outputs}
-use Rattle.cadzvigu.proofs.nearest.nearest_in.Goals as goal
+use Rattle.cadzvigu.proofs.nearest_points.nearest_in.Goals as goal
 
 pub returns-then-not-has_mark : goal.returns-then-not-has_mark
 returns-then-not-has_mark g c =
