@@ -2,7 +2,7 @@
 use Rattle.std.proofs.Common.{◌≡◌, ℕ, ◌+◌, ◌-◌, ◌*◌, ◌/◌, ◌%◌, ◌^◌, ◌<◌, ◌≤◌, List, [], ◌∷◌, ◌++◌, map, length, get_or, sym, refl, ap, ◌∙◌, arith}
 use lib.ListN.{length-map}
 use Rattle.std.specs.Int.Digits.{digits_of, number_from_digits, number_from_digits_after}
-use Rattle.std.specs.List.{AllByRecursion as All}
+use Rattle.std.specs.List.{AllByRecursion}
 use Rattle.std.proofs.lemmas.Int.Digits.{digits_of_step, all_below_base_digits_of, first_digits_of, number_after_append, number_after_ge, number_digits_of, length-digits_of-le}
 use Rattle.std.proofs.ByRecursion.{All-map, All-weaker}
 use Rattle.std.proofs.lemmas.List.{map-append}
@@ -27,7 +27,7 @@ numeral_more v d small some =
     ∙ ap (λ x. map (λ y. 48 + y) (digits_of 10 x) ++ (48 + n % 10) ∷ []) front
     ∙ ap (λ x. map (λ y. 48 + y) (digits_of 10 v) ++ (48 + x) ∷ []) last
 
-pub numeral_digits : (n : ℕ) → All IsDigit (numeral n)
+pub numeral_digits : (n : ℕ) → AllByRecursion IsDigit (numeral n)
 unfolding numeral
 numeral_digits n =
     All-map IsDigit (λ d. 48 + d) (digits_of 10 n)

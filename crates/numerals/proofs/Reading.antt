@@ -1,6 +1,6 @@
 -- Why a text is read as a number in one way at most, and when it is not read at all.
 use Rattle.std.proofs.Common.{◌≡◌, ℕ, ◌+◌, ◌*◌, ◌<◌, ◌⊎◌, List, [], ◌∷◌, ◌++◌, length, sym, refl, ap, ◌∙◌, subst, ⊎_elim, arith}
-use Rattle.std.specs.List.{AllByRecursion as All}
+use Rattle.std.specs.List.{AllByRecursion}
 use Rattle.std.proofs.lemmas.List.{append_assoc, append-nil, length-append}
 use Rattle.numerals.specs.Numerals.{numeral, Reads, Unread}
 use Rattle.numerals.proofs.Digits.{IsDigit, numeral_none, numeral_more, numeral_digits, same_numeral, longer_no_smaller, no_zero_in_front}
@@ -11,7 +11,7 @@ pub record Ahead (ds es u t : List ℕ) (s : ℕ) : Type 0 where
   pub longer : es ≡ ds ++ more
   pub left : u ≡ more ++ s ∷ t
 
-ahead : (ds es u t : List ℕ) (s : ℕ) → s < 48 → All IsDigit ds → ds ++ u ≡ es ++ s ∷ t → Ahead ds es u t s
+ahead : (ds es u t : List ℕ) (s : ℕ) → s < 48 → AllByRecursion IsDigit ds → ds ++ u ≡ es ++ s ∷ t → Ahead ds es u t s
 ahead [] es u t s small all e = record { more = es; longer = refl; left = e }
 ahead (d ∷ ds) [] u t s small all e = let h : d ≡ s = cc in absurd (omega (arith, all.0))
 ahead (d ∷ ds) (x ∷ es) u t s small all e =
@@ -20,13 +20,13 @@ ahead (d ∷ ds) (x ∷ es) u t s small all e =
     let r = ahead ds es u t s small all.1 k in
     record { more = r.more; longer = ap (λ y. y ∷ es) h ∙ ap (λ ys. d ∷ ys) r.longer; left = r.left }
 
-digit_within : (ds : List ℕ) (f : ℕ) (fs : List ℕ) → All IsDigit (ds ++ f ∷ fs) → IsDigit f
+digit_within : (ds : List ℕ) (f : ℕ) (fs : List ℕ) → AllByRecursion IsDigit (ds ++ f ∷ fs) → IsDigit f
 digit_within [] f fs h = h.0
 digit_within (d ∷ ds) f fs h = digit_within ds f fs h.1
 
 -- what goes on after the digits of a number, and still belongs to one, is a digit
 next_is_digit : (v w f : ℕ) (fs : List ℕ) → numeral w ≡ numeral v ++ f ∷ fs → IsDigit f
-next_is_digit v w f fs e = digit_within (numeral v) f fs (subst (All IsDigit) e (numeral_digits w))
+next_is_digit v w f fs e = digit_within (numeral v) f fs (subst (AllByRecursion IsDigit) e (numeral_digits w))
 
 same_head : (x y : ℕ) (xs ys : List ℕ) → x ∷ xs ≡ y ∷ ys → x ≡ y
 same_head x y xs ys p = cc

@@ -1,6 +1,6 @@
 -- The form of a stack of raw bit images: one image after the other, all of one width and height.
 use Rattle.std.specs.Prelude.{◌≡◌, ℕ, ◌+◌, ◌*◌, ◌/◌, ◌≤◌, List, [], ◌∷◌, ◌++◌, length}
-use Rattle.std.specs.List.{flat_map, AllByRecursion as All}
+use Rattle.std.specs.List.{flat_map, AllByRecursion}
 use Rattle.grid.specs.declared.sizes.Sizes.{Sizes}
 use Rattle.grid.specs.Geometry.{IsSize}
 use Rattle.numerals.specs.Numerals.{numeral, space, line_feed}
@@ -26,7 +26,7 @@ abbrev pub images_of : ℕ → ℕ → List (List ℕ) → List ℕ
 images_of w h rasters = flat_map (λ raster. header w h ++ raster) rasters
 
 abbrev pub AllFull : ℕ → ℕ → List (List ℕ) → Type 0
-AllFull w h rasters = All (λ raster. length raster ≡ raster_bytes w h) rasters
+AllFull w h rasters = AllByRecursion (λ raster. length raster ≡ raster_bytes w h) rasters
 
 -- the bytes are a stack of these sizes: one image or more, each a header and a full raster
 pub record IsStack (bytes : List ℕ) (s : Sizes) : Type 0 where

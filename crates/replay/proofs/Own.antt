@@ -1,6 +1,6 @@
 -- The book refuses nothing for the number of cells, and nothing for a value.
 use Rattle.std.proofs.Common.{◌≡◌, ℕ, ◌-◌, Bool, true, false, eqb, ltb, List, Some, None, Option, sym, refl, subst, arith}
-use Rattle.std.specs.List.{AllByRecursion as All}
+use Rattle.std.specs.List.{AllByRecursion}
 use Rattle.std.proofs.ByRecursion.{All-push}
 use Rattle.grid.specs.declared.cell.Cell.{Cell}
 use Rattle.grid.specs.declared.refusal.Refusal.{Refusal}
@@ -102,7 +102,7 @@ module _ {P : Type 0} (extent : P → Sizes) (marks : P → Place → Bool) wher
     told_answer (refused e) own b c a before after h = subst AnswerOfTheBook (sym h.0) (own e refl)
     told_answer (accepted next) own b c a before after h = accepted_answer b c a before after h
 
-    pub own_answers : (s : Sizes) (calls : List (Call P)) (answers : List Answer) (cells : List Cell) → Ran extent marks near s calls answers cells → All AnswerOfTheBook answers
+    pub own_answers : (s : Sizes) (calls : List (Call P)) (answers : List Answer) (cells : List Cell) → Ran extent marks near s calls answers cells → AllByRecursion AnswerOfTheBook answers
     own_answers s calls answers cells begun = tt
     own_answers s calls answers cells (called {calls = l} {answers = told-before} {before = before} ran c a after told) =
         All-push AnswerOfTheBook told-before a (own_answers s l told-before before ran)

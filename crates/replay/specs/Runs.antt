@@ -1,6 +1,6 @@
 -- A run: any list of calls on one job, with their answers and with what they do to the cells.
 use Rattle.std.specs.Prelude.{◌≡◌, ℕ, ◌<◌, Bool, true, false, List, [], ◌∷◌, ◌++◌, length, Some, None, Ok, Err, Result, ◌≢◌, slice_set}
-use Rattle.std.specs.List.{AllByRecursion as All}
+use Rattle.std.specs.List.{AllByRecursion}
 use Rattle.grid.specs.declared.cell.Cell.{Cell}
 use Rattle.grid.specs.declared.sizes.Sizes.{Sizes}
 use Rattle.grid.specs.Geometry.{Place, cell_count, cell_number}
@@ -84,7 +84,7 @@ module _ {P : Type 0} (extent : P → Sizes) (marks : P → Place → Bool) (nea
   pub record Played {R : Type 0} (rule : R) (s : Sizes) (calls : List (Call P)) (j : Job R) (answers : List Answer) (before after : List Cell) : Type 0 where
     pub begin_accepted : begin_door s before ≡ None
     pub ran : Ran s calls answers after
-    pub never_3_or_9 : All AnswerOfTheBook answers
+    pub never_3_or_9 : AllByRecursion AnswerOfTheBook answers
     pub as_booked : shown j after ≡ book_after extent marks s calls
     pub same_rule : rule_of j ≡ rule
     pub all_hold : AllHold near s (book_after extent marks s calls).marked after

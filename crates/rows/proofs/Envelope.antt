@@ -1,6 +1,6 @@
 -- What the crossing law gives of a stack of candidates.
 use Rattle.std.proofs.Common.{◌≡◌, ℕ, zero, suc, ◌+◌, ◌-◌, ◌<◌, ◌≤◌, ◌≢◌, List, [], ◌∷◌, length, get_or, set, sym, refl, subst, inl, inr, ⊎_elim, le_trans, le_of_lt, add-one, arith, get_or-set_other, get_or-set_same}
-use Rattle.std.specs.List.{AllByRecursion as All}
+use Rattle.std.specs.List.{AllByRecursion}
 use Rattle.std.proofs.lemmas.Bool.{cases_lt, cases_eq}
 use Rattle.grid.specs.Distance.{Near}
 use Rattle.grid.specs.RowGeometry.{OnAxis}
@@ -22,12 +22,12 @@ stacked_set s n c (suc m) h =
 pub stacked_push : (s : List Candidate) (n : ℕ) (c : Candidate) → n < length s → stacked (set s n c) (n + 1) ≡ c ∷ stacked s n
 stacked_push s n c h = rw (add-one, get_or-set_same s n c no_candidate h, stacked_set s n c n (omega arith))
 
-pub all_below : (P : Candidate → Type 0) (s : List Candidate) (n m : ℕ) → m ≤ n → All P (stacked s n) → All P (stacked s m)
-all_below P s zero m h a = let e : 0 ≡ m = omega arith in subst (λ k. All P (stacked s k)) e a
+pub all_below : (P : Candidate → Type 0) (s : List Candidate) (n m : ℕ) → m ≤ n → AllByRecursion P (stacked s n) → AllByRecursion P (stacked s m)
+all_below P s zero m h a = let e : 0 ≡ m = omega arith in subst (λ k. AllByRecursion P (stacked s k)) e a
 all_below P s (suc n) m h a =
-    ⊎_elim (λ e. subst (λ k. All P (stacked s k)) (sym e) a) (λ ne. all_below P s n m (omega arith) a.1) (cases_eq m (suc n))
+    ⊎_elim (λ e. subst (λ k. AllByRecursion P (stacked s k)) (sym e) a) (λ ne. all_below P s n m (omega arith) a.1) (cases_eq m (suc n))
 
-pub all_at : (P : Candidate → Type 0) (s : List Candidate) (n k : ℕ) → k < n → All P (stacked s n) → P (get_or s k no_candidate)
+pub all_at : (P : Candidate → Type 0) (s : List Candidate) (n k : ℕ) → k < n → AllByRecursion P (stacked s n) → P (get_or s k no_candidate)
 all_at P s zero k h a = absurd (omega arith)
 all_at P s (suc n) k h a =
     ⊎_elim (λ e. subst (λ m. P (get_or s m no_candidate)) (sym e) a.0) (λ ne. all_at P s n k (omega arith) a.1) (cases_eq k n)
@@ -94,7 +94,7 @@ module _ (ceiling : ℕ → ℕ) (near : Near) (law : Crossing ceiling near) (d 
       s t h k (f.there (omega arith))
 
   -- the top candidate is nearest from its start on
-  pub top_best : (c : Candidate) (st : List Candidate) (t v : ℕ) → LinedUp (near d) (c ∷ st) → All (Within (ceiling (d - 1)) 1023) (c ∷ st) → c.start ≤ t → t < 1023 → Covers (near d) (c ∷ st) t v → cost_of (near d) c t ≤ v
+  pub top_best : (c : Candidate) (st : List Candidate) (t v : ℕ) → LinedUp (near d) (c ∷ st) → AllByRecursion (Within (ceiling (d - 1)) 1023) (c ∷ st) → c.start ≤ t → t < 1023 → Covers (near d) (c ∷ st) t v → cost_of (near d) c t ≤ v
   top_best c [] t v l w h k (inl n) = n
   top_best c [] t v l w h k (inr n) = absurd n
   top_best c (b ∷ st) t v l w h k (inl n) = n
@@ -112,7 +112,7 @@ module _ (ceiling : ℕ → ℕ) (near : Near) (law : Crossing ceiling near) (d 
   pop_covers x c st e t v l wc wx f h k (inr (inr n)) = inr n
 
   -- the last candidate that has begun is nearest of all
-  pub last_best : (s : List Candidate) (n k t v : ℕ) → LinedUp (near d) (stacked s n) → All (Within (ceiling (d - 1)) 1023) (stacked s n) → k < n → start_of s k ≤ t → (k + 1 < n → t < start_of s (k + 1)) → t < 1023 → Covers (near d) (stacked s n) t v → cost_of (near d) (get_or s k no_candidate) t ≤ v
+  pub last_best : (s : List Candidate) (n k t v : ℕ) → LinedUp (near d) (stacked s n) → AllByRecursion (Within (ceiling (d - 1)) 1023) (stacked s n) → k < n → start_of s k ≤ t → (k + 1 < n → t < start_of s (k + 1)) → t < 1023 → Covers (near d) (stacked s n) t v → cost_of (near d) (get_or s k no_candidate) t ≤ v
   last_best s zero k t v l w h b x r c = absurd (omega arith)
   last_best s (suc n) k t v l w h b x r c =
       ⊎_elim

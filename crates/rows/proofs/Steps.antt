@@ -1,6 +1,6 @@
 -- One step of each loop: a candidate that is left out, put on or served.
 use Rattle.std.proofs.Common.{◌≡◌, ℕ, ◌+◌, ◌-◌, ◌<◌, ◌≤◌, Bool, true, false, cond, leb, List, ◌∷◌, length, get_or, set, Some, None, sym, refl, ap, subst, inl, inr, ⊎_elim, le_refl, arith}
-use Rattle.std.specs.List.{AllByRecursion as All}
+use Rattle.std.specs.List.{AllByRecursion}
 use Rattle.std.proofs.lemmas.Bool.{cases_eq, leb-true}
 use Rattle.std.proofs.ByRecursion.{All-weaker}
 use Rattle.grid.specs.declared.cell.Cell.{Cell}
@@ -69,7 +69,7 @@ module _ (n : ℕ) (row : ℕ → Cell) where
     pub stands_within : (c : Candidate) → StandsFor n row j c → Within most j c
     stands_within c h = record { before = h.before; carried = rw h.value (values c.place h.before) }
 
-    pub all_within : (st : List Candidate) → All (StandsFor n row j) st → All (Within most j) st
+    pub all_within : (st : List Candidate) → AllByRecursion (StandsFor n row j) st → AllByRecursion (Within most j) st
     all_within st a = All-weaker (StandsFor n row j) (Within most j) stands_within st a
 
 module _ (near : NearOn) (n : ℕ) (row : ℕ → Cell) where
@@ -93,9 +93,9 @@ module _ (near : NearOn) (n : ℕ) (row : ℕ → Cell) where
   -- the place j offers a point, which was put on the stack or not
   pub gathered_add : (j : ℕ) (s : List Candidate) (len : ℕ) (new : Candidate) (s' : List Candidate) (len' : ℕ) → j < n → Gathered near n row j s len → new.place ≡ j → new.value ≡ (row j).value → (row j).point ≡ Some new.point → Added near n s len new s' len' → Gathered near n row (j + 1) s' len'
   gathered_add j s len new s' len' lt h place value point a =
-      let later : All (StandsFor n row (j + 1)) (stacked s len) =
+      let later : AllByRecursion (StandsFor n row (j + 1)) (stacked s len) =
       All-weaker (StandsFor n row j) (StandsFor n row (j + 1)) (stands_later n row j) (stacked s len) h.points in
-      let left : All (StandsFor n row (j + 1)) (stacked s a.only.0) = all_below (StandsFor n row (j + 1)) s len a.only.0 a.only.2 later in
+      let left : AllByRecursion (StandsFor n row (j + 1)) (stacked s a.only.0) = all_below (StandsFor n row (j + 1)) s len a.only.0 a.only.2 later in
       let here : StandsFor n row (j + 1) (moved_to new a.only.1) =
       record {
         before = omega arith;
@@ -105,8 +105,8 @@ module _ (near : NearOn) (n : ℕ) (row : ℕ → Cell) where
       record {
         few = omega (arith, h.few, a.few);
         lined = a.lined;
-        points = ⊎_elim (λ e. subst (λ st. All (StandsFor n row (j + 1)) st) (sym e) left)
-            (λ e. subst (λ st. All (StandsFor n row (j + 1)) st) (sym e) (here, left)) a.only.3;
+        points = ⊎_elim (λ e. subst (λ st. AllByRecursion (StandsFor n row (j + 1)) st) (sym e) left)
+            (λ e. subst (λ st. AllByRecursion (StandsFor n row (j + 1)) st) (sym e) (here, left)) a.only.3;
         covers = λ i p t b offer r.
             a.covers t (offer_cost near row i t) r
             (⊎_elim
@@ -128,7 +128,7 @@ module _ (ceiling : ℕ → ℕ) (near : Near) (law : Crossing ceiling near) (d 
   served_by k t serves lt =
       let c : Candidate = get_or s k no_candidate in
       let stands : StandsFor n row n c = all_at (StandsFor n row n) s len k serves.inside gathered.points in
-      let within : All (Within (ceiling (d - 1)) 1023) (stacked s len) = All-weaker (StandsFor n row n) (Within (ceiling (d - 1)) 1023) widen (stacked s len) gathered.points in
+      let within : AllByRecursion (Within (ceiling (d - 1)) 1023) (stacked s len) = All-weaker (StandsFor n row n) (Within (ceiling (d - 1)) 1023) widen (stacked s len) gathered.points in
       record {
         mark = refl;
         level = refl;

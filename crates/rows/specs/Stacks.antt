@@ -1,6 +1,6 @@
 -- The candidates of a row: points that may be nearest somewhere, each from its start on, the latest on top.
 use Rattle.std.specs.Prelude.{◌≡◌, ℕ, zero, suc, ◌+◌, ◌<◌, ◌≤◌, ◌⊎◌, List, [], ◌∷◌, get_or, slice_index_or}
-use Rattle.std.specs.List.{AllByRecursion as All}
+use Rattle.std.specs.List.{AllByRecursion}
 use Rattle.grid.specs.declared.cell.Cell.{Cell}
 use Rattle.grid.specs.Rows.{NearOn, Offers, offer_cost}
 use Rattle.rules.specs.Ranges.{Crosses}
@@ -71,7 +71,7 @@ pub record Added (near : NearOn) (n : ℕ) (s : List Candidate) (len : ℕ) (new
 pub record Gathered (near : NearOn) (n : ℕ) (row : ℕ → Cell) (j : ℕ) (s : List Candidate) (len : ℕ) : Type 0 where
   pub few : len ≤ j
   pub lined : LinedUp near (stacked s len)
-  pub points : All (StandsFor n row j) (stacked s len)
+  pub points : AllByRecursion (StandsFor n row j) (stacked s len)
   pub covers : (i p t : ℕ) → i < j → Offers n row i p → t < n → Covers near (stacked s len) t (offer_cost near row i t)
 
 -- the place from which the candidate k of the slice serves

@@ -1,6 +1,6 @@
 //! The stack of candidates: the points that are nearest somewhere in the row so far, by rising starts.
 ghost use Rattle.std.specs.Prelude.{◌-◌, ◌<◌, ◌≤◌, length};
-ghost use Rattle.std.specs.List.{AllByRecursion as All};
+ghost use Rattle.std.specs.List.{AllByRecursion};
 ghost use Rattle.grid.specs.RowGeometry.{OnAxis};
 ghost use Rattle.rows.specs.Stacks.{stacked, LinedUp, Within, Settled, Added};
 
@@ -20,7 +20,7 @@ fn settle<R: Rule>(rule: &R, axis: u8, stack: &[Candidate], len: usize, new: Can
     requires inside { len ≤ length stack.now }
     requires new { Within (R.ceiling rule.now (axis - 1)) 1023 new }
     requires lined { LinedUp (R.near rule.now axis) (stacked stack.now len) }
-    requires below { All (Within (R.ceiling rule.now (axis - 1)) new.place) (stacked stack.now len) }
+    requires below { AllByRecursion (Within (R.ceiling rule.now (axis - 1)) new.place) (stacked stack.now len) }
     ensures { Settled (R.near rule.now axis) stack.now len new result.len result.start }
 {
     let mut n = len;
@@ -49,7 +49,7 @@ pub(crate) fn add<R: Rule>(
     requires count { (count ≤ 1023) × (1 ≤ count) }
     requires new { Within (R.ceiling rule.now (axis - 1)) 1023 new }
     requires lined { LinedUp (R.near rule.now axis) (stacked stack.old len) }
-    requires below { All (Within (R.ceiling rule.now (axis - 1)) new.place) (stacked stack.old len) }
+    requires below { AllByRecursion (Within (R.ceiling rule.now (axis - 1)) new.place) (stacked stack.old len) }
     ensures { Added (R.near rule.now axis) count stack.old len new stack.new result }
 {
     let slot = settle(rule, axis, stack, len, new);

@@ -1,6 +1,6 @@
 -- A word that is a spacing, digit by digit.
 use Rattle.std.proofs.Common.{◌≡◌, ℕ, ◌+◌, ◌-◌, ◌*◌, ◌<◌, ◌≤◌, ◌⊎◌, List, [], ◌∷◌, ◌++◌, length, get_or, drop, sym, ap, ◌∙◌, subst, ⊎_elim, arith}
-use Rattle.std.specs.List.{AllByRecursion as All}
+use Rattle.std.specs.List.{AllByRecursion}
 use Rattle.std.proofs.ByRecursion.{All-get_or}
 use Rattle.std.proofs.lemmas.List.{drop_more, drop_all, append_assoc, append-nil}
 use Rattle.numerals.specs.Numerals.{numeral}
@@ -30,7 +30,7 @@ module _ (word : List ℕ) (i v : ℕ) (so_far : word ≡ numeral v ++ drop i wo
 
     pub other_byte : (get_or word i 0 < 48) ⊎ (57 < get_or word i 0) → NoSpacing word
     other_byte other n writes =
-        let digits : All IsDigit word = subst (All IsDigit) (sym writes.1) (numeral_digits n) in
+        let digits : AllByRecursion IsDigit word = subst (AllByRecursion IsDigit) (sym writes.1) (numeral_digits n) in
         let digit = All-get_or IsDigit word i 0 within digits in
         ⊎_elim (λ l. omega (arith, digit)) (λ l. omega (arith, digit)) other
 
