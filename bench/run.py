@@ -1,7 +1,7 @@
 #!/usr/bin/env python3
 """Times the pass over all rows of four grids against a C++ reference, in one run.
 
-usage: bench/run.py [ROUNDS]     (after: rt check speed)
+usage: bench/run.py [ROUNDS]     (after: rt run in crates/speed)
 
 In each round the reference and the three rules take their turns, so that whatever else the machine does falls on all of
 them alike; where it may, the script raises its priority. For each it prints the median of the seconds of a whole grid, the
@@ -11,7 +11,7 @@ sums of all values must agree with the reference's.
 import os, statistics, subprocess, sys, tempfile
 
 HERE = os.path.dirname(os.path.abspath(__file__))
-SPEED = os.path.join(HERE, '..', 'target', 'bin', 'speed')
+SPEED = os.path.join(HERE, '..', 'crates', 'speed', 'out', 'speed')
 GRIDS = [  # sizes, spacings, seed, marks per mille, repeats in one turn
     ('256 256 256 1 1 1 7 10', 1),
     ('256 256 256 2 3 5 7 1', 1),
@@ -33,7 +33,7 @@ def summed(times):
 def main():
     rounds = int(sys.argv[1]) if len(sys.argv) > 1 else 5
     if not os.path.exists(SPEED):
-        sys.exit('target/bin/speed is not there: run rt check speed')
+        sys.exit('crates/speed/out/speed is not there: run rt run in crates/speed')
     try:
         os.nice(-20)
     except PermissionError:

@@ -6,8 +6,8 @@
  *
  * and every array has one entry for each cell, in the order of these numbers: x runs fastest.
  *
- * Link libcadzvigu.a, which `rt staticlib cadzvigu` writes, and beside it librattle_c.a of the Rattle kit; or build both into a
- * shared library. capi/build.sh does either.
+ * Link libcadzvigu.a, which capi/build.sh writes, and beside it liblibc_c.a of the Rattle kit; or build both into a shared
+ * library. capi/build.sh does either.
  *
  * The caller sees to it that each pointer points to an array of the length that follows it, aligned for its type and not null,
  * that no two arrays of a call overlap, and that nothing else uses them during the call. Calls keep nothing between them, so

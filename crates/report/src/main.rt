@@ -5,6 +5,7 @@ use anyhow::anyhow;
 use job_text::MOST_BYTES;
 use reporting::{ReportError, fault_text, report};
 use std::io::Read;
+use std::process::ExitCode;
 
 /// Reads standard input, one byte past the longest at most: more need not be known to tell that it is too long.
 fn read_input(rt: &HostRuntime) -> anyhow::Result<Vec<u8>> {
@@ -31,10 +32,10 @@ fn run(rt: &HostRuntime) -> anyhow::Result<bool> {
 }
 
 /// An error ends the program with status 1; one that is no fault of the input is told on standard error.
-fn main(rt: HostRuntime) -> anyhow::Result<()> {
+fn main(rt: HostRuntime) -> anyhow::Result<ExitCode> {
     if run(&rt)? {
-        Ok(())
+        Ok(ExitCode::SUCCESS)
     } else {
-        Err(anyhow!("the input is faulty"))
+        Ok(ExitCode::FAILURE)
     }
 }

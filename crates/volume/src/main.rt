@@ -15,6 +15,7 @@ use clock::{Progress, Stopwatch};
 use faults::fault_text;
 use file::{read_input, write_field};
 use std::env;
+use std::process::ExitCode;
 use told::tell;
 use volumes::{Volume, find_volume};
 
@@ -53,10 +54,12 @@ fn run(rt: &HostRuntime) -> anyhow::Result<()> {
 }
 
 /// Any failure ends the program with status 1, after a message on standard error.
-fn main(rt: HostRuntime) -> anyhow::Result<()> {
-    let outcome = run(&rt);
-    if let Err(error) = &outcome {
-        let _ = eprintln!(rt; "volume: {error}");
+fn main(rt: HostRuntime) -> ExitCode {
+    match run(&rt) {
+        Ok(()) => ExitCode::SUCCESS,
+        Err(error) => {
+            let _ = eprintln!(rt; "volume: {error}");
+            ExitCode::FAILURE
+        }
     }
-    outcome
 }
