@@ -175,7 +175,7 @@ def growth(there, rounds):
     print('how the cost of a cell grows with the grid: the least of the rounds, in ns')
     speed = os.path.join(HERE, '..', 'crates', 'speed', 'out', 'speed')
     if not os.path.exists(speed):
-        print('missing: crates/speed/out/speed, for the axes (rt run in crates/speed)')
+        print('missing: crates/speed/out/speed, for the axes (in crates/speed: rt run -- $(cat args))')
     for words in GROWTH:
         grid = Grid(words)
         line = f'  {words}: whole call {min(there["cadzvigu_nearest"](grid)[0] for _ in range(rounds)) / grid.count * 1e9:.2f}'

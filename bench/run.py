@@ -1,7 +1,7 @@
 #!/usr/bin/env python3
 """Times the pass over all rows of four grids against a C++ reference, in one run.
 
-usage: bench/run.py [ROUNDS]     (after: rt run in crates/speed)
+usage: bench/run.py [ROUNDS]     (after, in crates/speed: rt run -- $(cat args))
 
 In each round the reference and the three rules take their turns, so that whatever else the machine does falls on all of
 them alike; where it may, the script raises its priority. For each it prints the median of the seconds of a whole grid, the
@@ -33,7 +33,7 @@ def summed(times):
 def main():
     rounds = int(sys.argv[1]) if len(sys.argv) > 1 else 5
     if not os.path.exists(SPEED):
-        sys.exit('crates/speed/out/speed is not there: run rt run in crates/speed')
+        sys.exit('crates/speed/out/speed is not there: in crates/speed, rt run -- $(cat args)')
     try:
         os.nice(-20)
     except PermissionError:
