@@ -6,6 +6,8 @@ mod fault;
 mod nearest_points;
 mod rule_kind;
 mod skin;
+#[cfg(test)]
+mod tests;
 mod theorems;
 mod writing;
 
