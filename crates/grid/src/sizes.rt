@@ -3,6 +3,7 @@ ghost use Rattle.std.specs.Option.{SomeIff};
 ghost use Rattle.grid.specs.Doors.{Admits, sizes_door};
 ghost use Rattle.grid.specs.Geometry.{IsGrid, is_size, sizes_fit, is_grid, as_grid, cell_count, inside, cell_number, place_of};
 
+use crate::grids::Grid;
 use crate::refusal::Refusal;
 
 /// The largest size on an axis.
@@ -41,17 +42,19 @@ impl Sizes {
         self.fit() && self.nx * self.ny * self.nz <= MAX_CELLS
     }
 
-    /// These sizes where they are those of a grid, else those of a single cell.
-    pub fn as_grid(self) -> Sizes
-        ensures { result ≡ as_grid self }
+    /// The grid of these sizes where they are those of a grid, else that of a single cell.
+    pub fn as_grid(self) -> Grid
+        ensures { result.sizes ≡ as_grid self }
     {
         if self.is_grid() {
-            self
+            Grid { sizes: self }
         } else {
-            Sizes {
-                nx: 1,
-                ny: 1,
-                nz: 1,
+            Grid {
+                sizes: Sizes {
+                    nx: 1,
+                    ny: 1,
+                    nz: 1,
+                },
             }
         }
     }
@@ -82,7 +85,8 @@ impl Sizes {
         ensures { SomeIff result (IsGrid self × (inside self place ≡ true)) (cell_number self place) }
     {
         if self.is_grid() && self.contains(place) {
-            Some(self.number_in(place))
+            let grid = Grid { sizes: self };
+            Some(grid.number(place))
         } else {
             None
         }
@@ -93,48 +97,10 @@ impl Sizes {
         ensures { SomeIff result (IsGrid self × (number < cell_count self)) (place_of self number) }
     {
         if self.is_grid() && number < self.nx * self.ny * self.nz {
-            Some(self.place_in(number))
+            let grid = Grid { sizes: self };
+            Some(grid.place(number))
         } else {
             None
-        }
-    }
-
-    /// The number of the cell at a place that is known to lie in the grid: for the loops of the library.
-    pub fn number_in(self, place: (u32, u32, u32)) -> u32
-        requires grid { IsGrid self }
-        requires within { inside self place ≡ true }
-        ensures value { result ≡ cell_number self place }
-        ensures bound { result < cell_count self }
-    {
-        place.0 + self.nx * (place.1 + self.ny * place.2)
-    }
-
-    /// The place that belongs to a number, on sizes that are known to be those of a grid: for the loops of the library.
-    pub fn place_in(self, number: u32) -> (u32, u32, u32)
-        requires { IsGrid self }
-        ensures { result ≡ place_of self number }
-    {
-        (
-            number % self.nx,
-            number / self.nx % self.ny,
-            number / (self.nx * self.ny),
-        )
-    }
-
-    /// The place of the next cell by number, after the one at a place that is known to lie in the grid; after the last
-    /// cell, where the next layer would begin. For the loops of the library, which go without a division so.
-    pub fn next_in(self, place: (u32, u32, u32)) -> (u32, u32, u32)
-        requires grid { IsGrid self }
-        requires within { inside self place ≡ true }
-        ensures { result ≡ place_of self (cell_number self place + 1) }
-    {
-        let (x, y, z) = place;
-        if x + 1 < self.nx {
-            (x + 1, y, z)
-        } else if y + 1 < self.ny {
-            (0, y + 1, z)
-        } else {
-            (0, 0, z + 1)
         }
     }
 }

@@ -23,16 +23,16 @@ Leaves (Err kept) before after new = after ≡ before
 -- the states, with this rule and these sizes
 pub record IsPainting {R : Type 0} (rule : R) (s : Sizes) (p : Painting R) : Type 0 where
   pub same_rule : p.rule ≡ rule
-  pub same_sizes : p.space.sizes ≡ s
+  pub same_sizes : p.grid.sizes ≡ s
 
 pub record IsWorking {R : Type 0} (rule : R) (s : Sizes) (d : ℕ) (w : Working R) : Type 0 where
   pub same_rule : w.rule ≡ rule
-  pub same_sizes : w.space.sizes ≡ s
+  pub same_sizes : w.grid.sizes ≡ s
   pub on_axis : w.axis.number ≡ d
 
 pub record IsFinished {R : Type 0} (rule : R) (s : Sizes) (f : Finished R) : Type 0 where
   pub same_rule : f.rule ≡ rule
-  pub same_sizes : f.space.sizes ≡ s
+  pub same_sizes : f.grid.sizes ≡ s
 
 -- a raise from the axis d leads to the next axis, and from axis 3 to the end
 abbrev pub Rises : {R : Type 0} → R → Sizes → ℕ → Raised R → Type 0

@@ -6,20 +6,18 @@ ghost use Rattle.job.specs.Doors.{begin_door};
 ghost use Rattle.job.specs.Moves.{Moves, Leaves, IsPainting};
 
 use crate::passes::clear;
-use crate::space::Space;
+use crate::questions::check_lent;
 use crate::states::{Kept, Painting};
-use grid::{Cell, Refusal, Sizes};
+use grid::{Cell, Grid, Refusal, Sizes};
 use rules::Rule;
 
-/// The space of these sizes, if there is such a grid and exactly its cells are lent.
-fn space_for(sizes: Sizes, cells: &[Cell]) -> Result<Space, Refusal>
-    ensures { Admits result (begin_door sizes cells.now) (λ space. (space.sizes ≡ sizes) × (length cells.now ≡ cell_count sizes)) }
+/// The grid of these sizes, if there is one and exactly its cells are lent.
+fn grid_for(sizes: Sizes, cells: &[Cell]) -> Result<Grid, Refusal>
+    ensures { Admits result (begin_door sizes cells.now) (λ grid. (grid.sizes ≡ sizes) × (length cells.now ≡ cell_count sizes)) }
 {
-    let count = sizes.count_cells()?;
-    if cells.len() != count as usize {
-        return Err(Refusal::CellCount);
-    }
-    Ok(Space { sizes })
+    let grid = Grid::new(sizes)?;
+    check_lent(grid, cells)?;
+    Ok(grid)
 }
 
 /// Begins a job: every cell is unmarked, at level 0, and holds no point.
@@ -29,10 +27,10 @@ pub fn begin<R: Rule>(rule: R, sizes: Sizes, cells: &mut [Cell]) -> Result<Paint
     ensures moves { Moves result (begin_door sizes cells.old) rule (IsPainting rule sizes) }
     ensures leaves { Leaves result cells.old cells.new (painted_cells (λ k. false) (cell_count sizes)) }
 {
-    match space_for(sizes, cells) {
-        Ok(space) => {
+    match grid_for(sizes, cells) {
+        Ok(grid) => {
             clear(cells);
-            Ok(Painting { rule, space })
+            Ok(Painting { rule, grid })
         }
         Err(refusal) => Err(Kept {
             state: rule,

@@ -9,8 +9,7 @@ mod on_finished;
 mod on_painting;
 mod on_working;
 mod passes;
-mod space;
-mod spaces;
+mod questions;
 mod states;
 
 pub use beginning::begin;

@@ -5,6 +5,7 @@ ghost use Rattle.job.specs.Doors.{lent};
 ghost use Rattle.job.specs.Moves.{Moves, Leaves, IsPainting};
 
 use crate::passes::repaint;
+use crate::questions::{check_lent, check_place};
 use crate::states::{Finished, Kept, Painting};
 use grid::{Cell, Refusal};
 use rules::Rule;
@@ -17,35 +18,30 @@ impl<R: Rule> Finished<R> {
         cells: &[Cell],
         place: (u32, u32, u32),
     ) -> Result<Option<(u32, u64)>, Refusal>
-        ensures { Looks result self.now.space.sizes place cells.now }
+        ensures { Looks result self.now.grid.sizes place cells.now }
     {
-        if !self.space.has(cells) {
-            return Err(Refusal::CellCount);
-        }
-        let sizes = self.space.sizes;
-        if !sizes.contains(place) {
-            return Err(Refusal::OutsideGrid);
-        }
-        let cell = cells[sizes.number_in(place) as usize];
-        match cell.point {
-            None => Ok(None),
-            Some(point) => Ok(Some((point, cell.value))),
-        }
+        let number = check_place(self.grid, cells, place)?;
+        let cell = cells[number as usize];
+        Ok(cell.point.map(|point| (point, cell.value)))
     }
 
     /// Leads back to painting: every cell gets its painted record.
     pub fn reopen(self, cells: &mut [Cell]) -> Result<Painting<R>, Kept<Finished<R>>>
-        ensures moves { Moves result (lent self.space.sizes cells.old None) self (IsPainting self.rule self.space.sizes) }
+        ensures moves { Moves result (lent self.grid.sizes cells.old None) self (IsPainting self.rule self.grid.sizes) }
         ensures leaves { Leaves result cells.old cells.new (painted_cells (marks_in cells.old) (length cells.old)) }
     {
-        if !self.space.has(cells) {
-            return Err(Kept {
+        match check_lent(self.grid, cells) {
+            Ok(()) => {
+                repaint(cells);
+                Ok(Painting {
+                    rule: self.rule,
+                    grid: self.grid,
+                })
+            }
+            Err(refusal) => Err(Kept {
                 state: self,
-                refusal: Refusal::CellCount,
-            });
+                refusal,
+            }),
         }
-        repaint(cells);
-        let Finished { rule, space } = self;
-        Ok(Painting { rule, space })
     }
 }

@@ -6,8 +6,7 @@ ghost use Rattle.pictures.specs.Numbered.{marks_by_number};
 ghost use Rattle.job.specs.Cells.{marks_in, levels_in, painted_cells};
 ghost use Rattle.job.specs.Doors.{some_place};
 
-use crate::space::Space;
-use grid::Cell;
+use grid::{Cell, Grid};
 use pictures::Picture;
 
 /// Paints every cell unmarked.
@@ -15,8 +14,8 @@ pub(crate) fn clear(cells: &mut [Cell])
     requires { length cells.old ≤ 16777216 }
     ensures { cells.new ≡ painted_cells (λ k. false) (length cells.old) }
 {
-    for k in 0..cells.len() {
-        cells[k] = Cell::painted(false, k as u32);
+    for (k, cell) in cells.iter_mut().enumerate() {
+        *cell = Cell::painted(false, k as u32);
     }
 }
 
@@ -25,20 +24,20 @@ pub(crate) fn repaint(cells: &mut [Cell])
     requires { length cells.old ≤ 16777216 }
     ensures { cells.new ≡ painted_cells (marks_in cells.old) (length cells.old) }
 {
-    for k in 0..cells.len() {
-        cells[k] = Cell::painted(cells[k].marked, k as u32);
+    for (k, cell) in cells.iter_mut().enumerate() {
+        *cell = Cell::painted(cell.marked, k as u32);
     }
 }
 
 /// Paints every cell as a picture marks it.
-pub(crate) fn copy_picture<P: Picture>(space: Space, cells: &mut [Cell], picture: &P)
-    requires { length cells.old ≡ cell_count space.sizes }
-    ensures { cells.new ≡ painted_cells (marks_by_number space.sizes (P.marks picture.now)) (cell_count space.sizes) }
+pub(crate) fn copy_picture<P: Picture>(grid: Grid, cells: &mut [Cell], picture: &P)
+    requires { length cells.old ≡ cell_count grid.sizes }
+    ensures { cells.new ≡ painted_cells (marks_by_number grid.sizes (P.marks picture.now)) (cell_count grid.sizes) }
 {
     let mut place = (0, 0, 0);
-    for k in 0..space.count() {
-        cells[k] = Cell::painted(picture.marked(place), k as u32);
-        place = space.sizes.next_in(place);
+    for (k, cell) in cells.iter_mut().enumerate() {
+        *cell = Cell::painted(picture.marked(place), k as u32);
+        place = grid.next(place);
     }
 }
 

@@ -1,18 +1,17 @@
-use crate::space::{Axis, Space};
-use grid::Refusal;
+use grid::{Axis, Grid, Refusal};
 
 /// A job whose cells are being marked.
 #[derive(Drop)]
 pub struct Painting<R> {
     pub(crate) rule: R,
-    pub(crate) space: Space,
+    pub(crate) grid: Grid,
 }
 
 /// A job whose rows of one axis are being worked.
 #[derive(Drop)]
 pub struct Working<R> {
     pub(crate) rule: R,
-    pub(crate) space: Space,
+    pub(crate) grid: Grid,
     pub(crate) axis: Axis,
 }
 
@@ -20,7 +19,7 @@ pub struct Working<R> {
 #[derive(Drop)]
 pub struct Finished<R> {
     pub(crate) rule: R,
-    pub(crate) space: Space,
+    pub(crate) grid: Grid,
 }
 
 /// Where a raise leads: to the next axis, and after axis 3 to the end.

@@ -8,10 +8,10 @@ use crate::picture::Picture;
 pub fn count_marked<P: Picture>(picture: &P) -> u32
     ensures { result ≡ count_marks (P.extent picture.now) (P.marks picture.now) }
 {
-    let sizes = picture.sizes();
+    let grid = picture.grid();
     let mut count = 0;
-    for k in 0..sizes.nx * sizes.ny * sizes.nz {
-        if picture.marked(sizes.place_in(k)) {
+    for k in 0..grid.count() {
+        if picture.marked(grid.place(k)) {
             count += 1;
         }
     }
@@ -22,9 +22,9 @@ pub fn count_marked<P: Picture>(picture: &P) -> u32
 pub fn has_mark<P: Picture>(picture: &P) -> bool
     ensures { Decides result (SomeMarked (P.extent picture.now) (P.marks picture.now)) }
 {
-    let sizes = picture.sizes();
-    for k in 0..sizes.nx * sizes.ny * sizes.nz {
-        if picture.marked(sizes.place_in(k)) {
+    let grid = picture.grid();
+    for k in 0..grid.count() {
+        if picture.marked(grid.place(k)) {
             return true;
         }
     }

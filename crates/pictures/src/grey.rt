@@ -4,7 +4,7 @@ ghost use Rattle.pictures.specs.Doors.{grey_door};
 ghost use Rattle.pictures.specs.Greys.{IsGrey, grey_extent, grey_marks, grey_lawful};
 
 use crate::picture::Picture;
-use grid::{Refusal, Sizes};
+use grid::{Grid, Refusal, Sizes};
 
 /// A picture over lent bytes, one for each cell in the order of the cell numbers. A byte that reaches the threshold
 /// marks its cell; threshold 0 marks them all.
@@ -42,16 +42,16 @@ impl<'a> Picture for Grey<'a> {
 
     ghost lawful = { grey_lawful };
 
-    fn sizes(&self) -> Sizes {
+    fn grid(&self) -> Grid {
         self.sizes.as_grid()
     }
 
     fn marked(&self, place: (u32, u32, u32)) -> bool {
-        let sizes = self.sizes.as_grid();
-        if !sizes.contains(place) {
+        let grid = self.grid();
+        if !grid.sizes.contains(place) {
             return false;
         }
-        let i = sizes.number_in(place) as usize;
+        let i = grid.number(place) as usize;
         i < self.bytes.len() && self.bytes[i] >= self.threshold
     }
 }

@@ -5,7 +5,7 @@ ghost use Rattle.pictures.specs.Faces.{AnswersHalfGrid, half_sizes, half_extent,
 ghost use Rattle.pictures.specs.Laws.{lawful_as_grid};
 
 use crate::picture::Picture;
-use grid::{MAX_CELLS, Refusal, Sizes};
+use grid::{Grid, MAX_CELLS, Refusal, Sizes};
 
 /// The largest size of a picture that has a half-grid.
 const MAX_SIZE_BELOW: u32 = 512;
@@ -80,17 +80,17 @@ impl<'a, P: Picture> HalfGrid<'a, P> {
 }
 
 impl<'a, P: Picture> Picture for HalfGrid<'a, P> {
-    ghost extent = { λ h. half_extent (P.Picture.extent h.below.now) };
+    ghost extent = { λ h. half_extent (P.extent h.below.now) };
 
-    ghost marks = { λ h. half_marks (P.Picture.extent h.below.now) (P.Picture.marks h.below.now) };
+    ghost marks = { λ h. half_marks (P.extent h.below.now) (P.marks h.below.now) };
 
-    ghost lawful = { lawful_as_grid (λ h. half_sizes (P.Picture.extent h.below.now)) (λ h. mixed_corners (P.Picture.marks h.below.now)) };
+    ghost lawful = { lawful_as_grid (λ h. half_sizes (P.extent h.below.now)) (λ h. mixed_corners (P.marks h.below.now)) };
 
-    fn sizes(&self) -> Sizes {
+    fn grid(&self) -> Grid {
         half_sizes(self.below).as_grid()
     }
 
     fn marked(&self, place: (u32, u32, u32)) -> bool {
-        half_sizes(self.below).as_grid().contains(place) && has_mixed_corners(self.below, place)
+        self.grid().sizes.contains(place) && has_mixed_corners(self.below, place)
     }
 }

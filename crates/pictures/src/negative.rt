@@ -3,7 +3,7 @@ ghost use Rattle.pictures.specs.Laws.{lawful_within};
 ghost use Rattle.pictures.specs.Negatives.{MarksTheRest, negative_marks};
 
 use crate::picture::Picture;
-use grid::Sizes;
+use grid::Grid;
 
 /// The negative of a picture: it has the same grid, and marks the cells of it that the picture does not.
 #[derive(Drop)]
@@ -22,17 +22,17 @@ impl<'a, P: Picture> Negative<'a, P> {
 }
 
 impl<'a, P: Picture> Picture for Negative<'a, P> {
-    ghost extent = { λ n. P.Picture.extent n.of.now };
+    ghost extent = { λ n. P.extent n.of.now };
 
-    ghost marks = { λ n. negative_marks (P.Picture.extent n.of.now) (P.Picture.marks n.of.now) };
+    ghost marks = { λ n. negative_marks (P.extent n.of.now) (P.marks n.of.now) };
 
-    ghost lawful = { lawful_within (λ n. P.Picture.extent n.of.now) (λ n at. not (P.Picture.marks n.of.now at)) (λ n. P.Picture.lawful.grid n.of.now) };
+    ghost lawful = { lawful_within (λ n. P.extent n.of.now) (λ n at. not (P.marks n.of.now at)) (λ n. P.Picture.lawful.grid n.of.now) };
 
-    fn sizes(&self) -> Sizes {
-        self.of.sizes()
+    fn grid(&self) -> Grid {
+        self.of.grid()
     }
 
     fn marked(&self, place: (u32, u32, u32)) -> bool {
-        self.of.sizes().contains(place) && !self.of.marked(place)
+        self.grid().sizes.contains(place) && !self.of.marked(place)
     }
 }

@@ -3,7 +3,7 @@ ghost use Rattle.grid.specs.Geometry.{Place};
 ghost use Rattle.grid.specs.declared.sizes.Sizes.{Sizes as GridSizes};
 ghost use Rattle.pictures.specs.Laws.{Lawful};
 
-use grid::Sizes;
+use grid::{Grid, Sizes};
 
 /// A picture: the sizes of a grid, and for any place whether the cell there is marked.
 ///
@@ -19,9 +19,16 @@ pub trait Picture {
     // every picture has the sizes of a grid, and marks no place outside it
     ghost lawful: { Lawful extent marks };
 
+    /// The picture's grid.
+    fn grid(&self) -> Grid
+        ensures { result.sizes ≡ extent self.now };
+
     /// The sizes of the picture's grid.
     fn sizes(&self) -> Sizes
-        ensures { result ≡ extent self.now };
+        ensures { result ≡ extent self.now }
+    {
+        self.grid().sizes
+    }
 
     /// Whether the cell at a place is marked; outside the grid it is not.
     fn marked(&self, place: (u32, u32, u32)) -> bool

@@ -1,7 +1,7 @@
 ghost use Rattle.std.specs.Prelude.{◌≡◌, ◌-◌, ◌<◌};
-ghost use Rattle.grid.specs.RowGeometry.{OnAxis};
 ghost use Rattle.rows.specs.Stacks.{Within, Overtakes, cost_of};
 
+use grid::Axis;
 use rules::Rule;
 
 /// A point of a row that may be nearest from the place `start` on. It stands at `place` and carries `value`.
@@ -22,14 +22,13 @@ pub(crate) const UNUSED: Candidate = Candidate {
 };
 
 /// The lowest place at which `new` is no farther than `old`, or 1023 where there is none.
-pub(crate) fn overtaking<R: Rule>(rule: &R, axis: u8, old: Candidate, new: Candidate) -> u16
-    requires axis { OnAxis axis }
-    requires old { Within (R.ceiling rule.now (axis - 1)) new.place old }
-    requires new { Within (R.ceiling rule.now (axis - 1)) 1023 new }
-    ensures { Overtakes (R.near rule.now axis) old new result }
+pub(crate) fn overtaking<R: Rule>(rule: &R, axis: Axis, old: Candidate, new: Candidate) -> u16
+    requires old { Within (R.ceiling rule.now (axis.number - 1)) new.place old }
+    requires new { Within (R.ceiling rule.now (axis.number - 1)) 1023 new }
+    ensures { Overtakes (R.near rule.now axis.number) old new result }
 {
     let place = rule.crossing_in(
-        axis,
+        axis.number,
         old.place as u32,
         old.value,
         new.place as u32,
@@ -39,11 +38,15 @@ pub(crate) fn overtaking<R: Rule>(rule: &R, axis: u8, old: Candidate, new: Candi
 }
 
 /// What a candidate costs at the place `t`.
-pub(crate) fn cost<R: Rule>(rule: &R, axis: u8, candidate: Candidate, t: u16) -> u64
-    requires axis { OnAxis axis }
-    requires candidate { Within (R.ceiling rule.now (axis - 1)) 1023 candidate }
+pub(crate) fn cost<R: Rule>(rule: &R, axis: Axis, candidate: Candidate, t: u16) -> u64
+    requires candidate { Within (R.ceiling rule.now (axis.number - 1)) 1023 candidate }
     requires place { t < 1023 }
-    ensures { result ≡ cost_of (R.near rule.now axis) candidate t }
+    ensures { result ≡ cost_of (R.near rule.now axis.number) candidate t }
 {
-    rule.near_in(axis, candidate.place as u32, t as u32, candidate.value)
+    rule.near_in(
+        axis.number,
+        candidate.place as u32,
+        t as u32,
+        candidate.value,
+    )
 }

@@ -1,7 +1,7 @@
 //! Reads a row: tests its records, and gathers the candidates.
 ghost use Rattle.std.specs.Prelude.{◌≡◌, ◌-◌, ◌≤◌, length};
 ghost use Rattle.grid.specs.Doors.{Admits};
-ghost use Rattle.grid.specs.RowGeometry.{OnAxis, LiesIn, row_at};
+ghost use Rattle.grid.specs.RowGeometry.{LiesIn, row_at};
 ghost use Rattle.grid.specs.Rows.{RowAt, records};
 ghost use Rattle.rows.specs.Passes.{pass_door, late_refusal};
 ghost use Rattle.rows.specs.Stacks.{Gathered};
@@ -9,15 +9,14 @@ ghost use Rattle.rows.specs.Stacks.{Gathered};
 use crate::candidate::Candidate;
 use crate::places::load;
 use crate::stack::add;
-use grid::{Cell, Refusal, Row};
+use grid::{Axis, Cell, Refusal, Row};
 use rules::Rule;
 
 /// The most that a point on the axis can carry.
-fn most_on<R: Rule>(rule: &R, axis: u8) -> u64
-    requires { OnAxis axis }
-    ensures { result ≡ R.ceiling rule.now (axis - 1) }
+fn most_on<R: Rule>(rule: &R, axis: Axis) -> u64
+    ensures { result ≡ R.ceiling rule.now (axis.number - 1) }
 {
-    match rule.most_carried(axis) {
+    match rule.most_carried(axis.number) {
         Some(most) => most,
         None => unreachable(),
     }
@@ -42,25 +41,24 @@ fn refusal_past(cells: &[Cell], row: Row, level: u8, first: u16) -> Refusal
 /// Gathers the candidates of a row onto the stack, and says how many there are, or why the row is refused.
 pub(crate) fn gather<R: Rule>(
     rule: &R,
-    axis: u8,
+    axis: Axis,
     cells: &[Cell],
     row: Row,
     stack: &mut [Candidate],
 ) -> Result<usize, Refusal>
-    requires axis { OnAxis axis }
     requires row { LiesIn row (length cells.now) }
     requires room { row.count ≤ length stack.old }
-    ensures { Admits result (pass_door (R.ceiling rule.now) axis row cells.now) (Gathered (R.near rule.now axis) row.count (records cells.now (row_at row)) row.count stack.new) }
+    ensures { Admits result (pass_door (R.ceiling rule.now) axis.number row cells.now) (Gathered (R.near rule.now axis.number) row.count (records cells.now (row_at row)) row.count stack.new) }
 {
     let most = most_on(rule, axis);
     let mut len = 0;
     for j in 0..row.count {
         let cell = load(cells, row, j);
-        if cell.level != axis - 1 {
+        if cell.level != axis.number - 1 {
             return Err(Refusal::RowLevel);
         }
         if cell.value > most {
-            return Err(refusal_past(cells, row, axis - 1, j + 1));
+            return Err(refusal_past(cells, row, axis.number - 1, j + 1));
         }
         if let Some(point) = cell.point {
             let new = Candidate {

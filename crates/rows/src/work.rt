@@ -1,11 +1,11 @@
 ghost use Rattle.std.specs.Prelude.{length};
-ghost use Rattle.grid.specs.RowGeometry.{OnAxis, LiesIn};
+ghost use Rattle.grid.specs.RowGeometry.{LiesIn};
 ghost use Rattle.rows.specs.Passes.{Worked};
 
 use crate::gather::gather;
 use crate::room::Room;
 use crate::serve::{clear, serve};
-use grid::{Cell, Refusal, Row};
+use grid::{Axis, Cell, Refusal, Row};
 use rules::Rule;
 
 /// Works one row of an axis: each cell of it gets the level `axis`, a point of the row that is nearest to it, and what that
@@ -14,17 +14,16 @@ use rules::Rule;
 /// A row with a cell that is not at the level below is refused, and else one with a value that the rule does not carry to
 /// the axis. Nothing is written then.
 ///
-/// For the loops of the library, which know their rows: the row lies in the cells, and the axis is 1 to 3.
+/// For the loops of the library, which know their rows: the row lies in the cells.
 pub fn work_row<R: Rule>(
     rule: &R,
-    axis: u8,
+    axis: Axis,
     cells: &mut [Cell],
     row: Row,
     room: &mut Room,
 ) -> Result<(), Refusal>
-    requires axis { OnAxis axis }
     requires row { LiesIn row (length cells.old) }
-    ensures { Worked result (R.near rule.now) (R.ceiling rule.now) axis row cells.old cells.new }
+    ensures { Worked result (R.near rule.now) (R.ceiling rule.now) axis.number row cells.old cells.new }
 {
     let len = gather(rule, axis, cells, row, &mut room.candidates)?;
     if len == 0 {

@@ -6,25 +6,22 @@ use Rattle.job.proofs.Writing.{written_more, written_all}
 use Rattle.job.proofs.passes.copy_picture.Goals as goal
 
 pub loop-k-init : goal.loop-k-init
-loop-k-init g c = (λ k h. absurd (omega arith), sym (first_place c.args.space.sizes c.args.space.grid))
+loop-k-init g c = (λ k h. absurd (omega arith), sym (first_place c.args.grid.sizes c.args.grid.is))
 
-pub next_in-place-requires : goal.next_in-place-requires
-next_in-place-requires g c =
-    record {
-      grid = c.args.space.grid;
-      within = placed_inside c.args.space.sizes c.args.space.grid c.loop-k.k c.loop-k.place c.loop-k.invariant.1 (omega (arith, c.loop-k-test.true));
-    }
+pub next-place-requires : goal.next-place-requires
+next-place-requires g c =
+    placed_inside c.args.grid.sizes c.args.grid.is c.loop-k.k c.loop-k.place c.loop-k.invariant.1 (omega (arith, c.loop-k-test.true))
 
 pub loop-k-preserved : goal.loop-k-preserved
 loop-k-preserved g c =
     let marks = g.P.Picture.marks c.args.picture.now in
-    let sizes = c.args.space.sizes in (
+    let sizes = c.args.grid.sizes in (
       written_more (λ k. painted (marks_by_number sizes marks k) k) c.loop-k.cells c.loop-k.k c.loop-k.invariant.0 c.painted.result (omega arith)
           (c.painted.ensures ∙ ap (λ b. painted b c.loop-k.k) (c.marked.ensures ∙ ap marks c.loop-k.invariant.1)),
-      next_placed sizes c.args.space.grid c.loop-k.k c.loop-k.place c.loop-k.invariant.1 _ c.next_in-place.ensures,
+      next_placed sizes c.args.grid.is c.loop-k.k c.loop-k.place c.loop-k.invariant.1 _ c.next-place.ensures,
     )
 
 pub returns : goal.returns
 returns g c =
     let marks = g.P.Picture.marks c.args.picture.now in
-    written_all (λ k. painted (marks_by_number c.args.space.sizes marks k) k) c.loop-k.cells c.loop-k.k c.loop-k.invariant.0 _ (omega arith) (omega arith)
+    written_all (λ k. painted (marks_by_number c.args.grid.sizes marks k) k) c.loop-k.cells c.loop-k.k c.loop-k.invariant.0 _ (omega arith) (omega arith)

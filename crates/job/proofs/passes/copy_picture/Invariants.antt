@@ -6,5 +6,5 @@ use Rattle.job.proofs.passes.copy_picture.Given as goal
 
 abbrev pub invariant-loop-k : goal.invariant-loop-k
 invariant-loop-k g l =
-    ((k : ℕ) → k < l.k → cell_at l.cells k ≡ painted (marks_by_number l.space.sizes (g.P.Picture.marks l.picture) k) k)
-    × (l.place ≡ place_of l.space.sizes l.k)
+    ((k : ℕ) → k < l.k → cell_at l.cells k ≡ painted (marks_by_number l.grid.sizes (g.P.Picture.marks l.picture) k) k)
+    × (l.place ≡ place_of l.grid.sizes l.k)

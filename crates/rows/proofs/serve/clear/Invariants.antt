@@ -4,4 +4,4 @@ use Rattle.rows.specs.Passes.{Passed, Blank}
 use Rattle.rows.proofs.serve.clear.Given as goal
 
 abbrev pub invariant-loop-t : goal.invariant-loop-t
-invariant-loop-t l = Passed (Blank l.axis (records l.initial.cells (row_at l.row))) l.row l.t l.initial.cells l.cells
+invariant-loop-t l = Passed (Blank l.axis.number (records l.initial.cells (row_at l.row))) l.row l.t l.initial.cells l.cells

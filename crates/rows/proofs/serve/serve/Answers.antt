@@ -10,17 +10,17 @@ use Rattle.rows.proofs.serve.serve.Goals as goal
 
 pub loop-t-init : goal.loop-t-init
 loop-t-init g c =
-    let near = g.R.Rule.near c.args.rule.now c.args.axis in
+    let near = g.R.Rule.near c.args.rule.now c.args.axis.number in
     let row = c.args.row in
     let old = c.args.cells.now in
     let first = first_start near c.args.stack.now c.args.len c.requires.some.0 c.requires.gathered.lined in (
-      passed_none (Served near c.args.axis row.count (records old (row_at row))) row c.requires.row.stepped old,
+      passed_none (Served near c.args.axis.number row.count (records old (row_at row))) row c.requires.row.stepped old,
       record { inside = c.requires.some.0; begun = omega (arith, first); next = λ h. omega arith },
     )
 
 pub serving-k-requires : goal.serving-k-requires
 serving-k-requires g c =
-    let near = g.R.Rule.near c.args.rule.now c.args.axis in
+    let near = g.R.Rule.near c.args.rule.now c.args.axis.number in
     record { inside = c.requires.some.1; climbs = climbs near c.args.stack.now c.args.len c.requires.gathered.lined; last = c.loop-t.invariant.1 }
 
 pub cost-value-requires : goal.cost-value-requires
@@ -30,8 +30,7 @@ cost-value-requires g c =
     let law = g.met.R.Rule.crosses c.args.rule.now in
     let row = c.args.row in
     record {
-      axis = c.requires.axis;
-      candidate = within_at ceiling near law c.args.axis c.requires.axis row.count (records c.args.cells.now (row_at row)) c.requires.values c.requires.row.few_places c.args.stack.now c.args.len c.requires.gathered c.serving-k.result c.serving-k.ensures.inside;
+      candidate = within_at ceiling near law c.args.axis.number c.args.axis.on row.count (records c.args.cells.now (row_at row)) c.requires.values c.requires.row.few_places c.args.stack.now c.args.len c.requires.gathered c.serving-k.result c.serving-k.ensures.inside;
       place = omega (arith, c.requires.row.few_places, c.loop-t-test.true);
     }
 
@@ -44,7 +43,7 @@ loop-t-preserved g c =
     let near = g.R.Rule.near c.args.rule.now in
     let ceiling = g.R.Rule.ceiling c.args.rule.now in
     let law = g.met.R.Rule.crosses c.args.rule.now in
-    let d = c.args.axis in
+    let d = c.args.axis.number in
     let row = c.args.row in
     let old = c.args.cells.now in
     let was = records old (row_at row) in
@@ -55,7 +54,7 @@ loop-t-preserved g c =
     let same = passed_ahead P row c.requires.row.stepped old t c.loop-t.cells passed in
     let inside = subst (λ n. row_at row t < n) (sym passed.same_length) (lies row _ t c.requires.row c.loop-t-test.true) in
     let best : P t (renewed (was t) d (Some last.point) (cost_of (near d) last t)) =
-    served_by ceiling near law d c.requires.axis row.count was c.requires.values c.requires.row.few_places c.args.stack.now c.args.len c.requires.gathered c.serving-k.result t c.serving-k.ensures c.loop-t-test.true in
+    served_by ceiling near law d c.args.axis.on row.count was c.requires.values c.requires.row.few_places c.args.stack.now c.args.len c.requires.gathered c.serving-k.result t c.serving-k.ensures c.loop-t-test.true in
     let written : P t (renewed (records c.loop-t.cells (row_at row) t) d (Some last.point) c.cost-value.result) =
     subst (λ v. P t (renewed (records c.loop-t.cells (row_at row) t) d (Some last.point) v)) (sym c.cost-value.ensures)
     (subst (λ cell. P t (renewed cell d (Some last.point) (cost_of (near d) last t))) (sym same) best) in (
@@ -70,5 +69,5 @@ returns g c =
     let row = c.args.row in
     let old = c.args.cells.now in
     let all : c.loop-t.t ≡ row.count = omega arith in
-    served_done near c.args.axis row old c.loop-t.cells
-    (subst (λ n. Passed (Served (near c.args.axis) c.args.axis row.count (records old (row_at row))) row n old c.loop-t.cells) all c.loop-t.invariant.0)
+    served_done near c.args.axis.number row old c.loop-t.cells
+    (subst (λ n. Passed (Served (near c.args.axis.number) c.args.axis.number row.count (records old (row_at row))) row n old c.loop-t.cells) all c.loop-t.invariant.0)

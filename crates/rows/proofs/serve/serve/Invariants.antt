@@ -6,6 +6,6 @@ use Rattle.rows.proofs.serve.serve.Given as goal
 
 abbrev pub invariant-loop-t : goal.invariant-loop-t
 invariant-loop-t g l =
-    let near = g.R.Rule.near l.rule l.axis in
-    Passed (Served near l.axis l.row.count (records l.initial.cells (row_at l.row))) l.row l.t l.initial.cells l.cells
+    let near = g.R.Rule.near l.rule l.axis.number in
+    Passed (Served near l.axis.number l.row.count (records l.initial.cells (row_at l.row))) l.row l.t l.initial.cells l.cells
     × Begun l.stack l.len l.k l.t

@@ -7,15 +7,14 @@ use Rattle.rows.proofs.stack.settle.Goals as goal
 pub overtaking-start-requires : goal.overtaking-start-requires
 overtaking-start-requires g c =
     record {
-      axis = c.requires.axis;
-      old = all_at (Within (g.R.Rule.ceiling c.args.rule.now (c.args.axis - 1)) c.args.new.place) c.args.stack.now c.args.len (c.loop-n.n - 1) (omega arith) c.requires.below;
+      old = all_at (Within (g.R.Rule.ceiling c.args.rule.now (c.args.axis.number - 1)) c.args.new.place) c.args.stack.now c.args.len (c.loop-n.n - 1) (omega arith) c.requires.below;
       new = c.requires.new;
     }
 
 pub returns-then-start-top : goal.returns-then-start-top
 returns-then-start-top g c =
-    let near = g.R.Rule.near c.args.rule.now c.args.axis in
-    let w : Within (g.R.Rule.ceiling c.args.rule.now (c.args.axis - 1)) c.args.new.place (get_or c.args.stack.now (c.loop-n.n - 1) no_candidate) =
+    let near = g.R.Rule.near c.args.rule.now c.args.axis.number in
+    let w : Within (g.R.Rule.ceiling c.args.rule.now (c.args.axis.number - 1)) c.args.new.place (get_or c.args.stack.now (c.loop-n.n - 1) no_candidate) =
     all_at _ c.args.stack.now c.args.len (c.loop-n.n - 1) (omega arith) c.requires.below in
     record {
       fewer = c.loop-n.invariant.0;
@@ -29,11 +28,11 @@ loop-n-preserved g c =
     let near = g.R.Rule.near c.args.rule.now in
     let ceiling = g.R.Rule.ceiling c.args.rule.now in
     let law = g.met.R.Rule.crosses c.args.rule.now in
-    let w : Within (ceiling (c.args.axis - 1)) c.args.new.place (get_or c.args.stack.now (c.loop-n.n - 1) no_candidate) =
+    let w : Within (ceiling (c.args.axis.number - 1)) c.args.new.place (get_or c.args.stack.now (c.loop-n.n - 1) no_candidate) =
     all_at _ c.args.stack.now c.args.len (c.loop-n.n - 1) (omega arith) c.requires.below in (
       omega arith,
       λ t v h cov.
-          settle_pop ceiling near law c.args.axis c.requires.axis c.args.stack.now c.loop-n.n (omega arith) c.args.new c.overtaking-start.result t v
-          (lined_down (near c.args.axis) c.args.stack.now c.args.len c.loop-n.n c.loop-n.invariant.0 c.requires.lined) w c.requires.new c.overtaking-start.ensures (omega arith) h
+          settle_pop ceiling near law c.args.axis.number c.args.axis.on c.args.stack.now c.loop-n.n (omega arith) c.args.new c.overtaking-start.result t v
+          (lined_down (near c.args.axis.number) c.args.stack.now c.args.len c.loop-n.n c.loop-n.invariant.0 c.requires.lined) w c.requires.new c.overtaking-start.ensures (omega arith) h
           (c.loop-n.invariant.1 t v h cov),
     )

@@ -8,13 +8,12 @@ use Rattle.rows.proofs.work.work_row.Goals as goal
 
 pub serve-requires : goal.serve-requires
 serve-requires g c =
-    let most = g.R.Rule.ceiling c.args.rule.now (c.args.axis - 1) in
+    let most = g.R.Rule.ceiling c.args.rule.now (c.args.axis.number - 1) in
     let row = records c.args.cells.now (row_at c.args.row) in
     let gathered = c.in_ok-len.ensures in
     record {
-      axis = c.requires.axis;
       row = c.requires.row;
-      values = door_values c.args.row.count row (c.args.axis - 1) most gathered.0;
+      values = door_values c.args.row.count row (c.args.axis.number - 1) most gathered.0;
       some = (omega (arith, c.if-len-eq0.false), omega (arith, gathered.1.few, c.requires.row.few_places));
       gathered = gathered.1;
     }
@@ -22,7 +21,7 @@ serve-requires g c =
 pub returns-then-len-eq0 : goal.returns-then-len-eq0
 returns-then-len-eq0 g c =
     let near = g.R.Rule.near c.args.rule.now in
-    let d = c.args.axis in
+    let d = c.args.axis.number in
     let row = c.args.row in
     let old = c.args.cells.now in
     let stack = c.gather.new.stack in
