@@ -27,7 +27,7 @@ use Rattle.replay.proofs.Turns.{same_book}
 
 -- in a sound job every record is right
 pub sound_holds : {R : Type 0} (near : Near) (j : Job R) (cells : List Cell) → Sound near j cells → AllHold near (sizes_of j) (marks_in cells) cells
-sound_holds near (job.Painting p) cells h = (painted_holds near p.space.sizes (marks_in cells) cells h).all_hold
+sound_holds near (job.Painting p) cells h = (painted_holds near p.grid.sizes (marks_in cells) cells h).all_hold
 sound_holds near (job.Working w) cells h = h
 sound_holds near (job.Finished f) cells h = h.all_hold
 
@@ -58,10 +58,10 @@ module _ {R P : Type 0} (extent : P → Sizes) (marks : P → Place → Bool) (n
   begins answers p cells is new =
       let n = cell_count s in
       let blank : List Cell = painted_cells (λ k. false) (cell_count s) in
-      let all = painted_all (λ k. false) n p.space.sizes (ap cell_count (sym is.same_sizes)) in
+      let all = painted_all (λ k. false) n p.grid.sizes (ap cell_count (sym is.same_sizes)) in
       record {
         ran = subst (λ x. Ran extent marks (near rule) s [] [] x) (sym new) begun;
-        as_booked = ap (shown (job.Painting p)) new ∙ same_book is.same_sizes refl (marks_painted (λ k. false) n (λ k h. refl)) (levels_0 p.space.sizes blank all);
+        as_booked = ap (shown (job.Painting p)) new ∙ same_book is.same_sizes refl (marks_painted (λ k. false) n (λ k h. refl)) (levels_0 p.grid.sizes blank all);
         same_rule = is.same_rule;
         same_sizes = is.same_sizes;
         sound = subst (Sound (near rule) (job.Painting p)) (sym new) all;
@@ -69,9 +69,9 @@ module _ {R P : Type 0} (extent : P → Sizes) (marks : P → Place → Bool) (n
 
   -- the same over the rule and the sizes that the job holds
   pub going_none : (answers : List Answer) (p : Painting R) (cells : List Cell) → IsPainting rule s p → cells ≡ painted_cells (λ k. false) (cell_count s)
-      → Going extent marks near p.rule p.space.sizes calls answers 0 (job.Painting p) cells
+      → Going extent marks near p.rule p.grid.sizes calls answers 0 (job.Painting p) cells
   going_none answers p cells is new =
-      subst (λ r. Going extent marks near r p.space.sizes calls answers 0 (job.Painting p) cells) (sym is.same_rule)
+      subst (λ r. Going extent marks near r p.grid.sizes calls answers 0 (job.Painting p) cells) (sym is.same_rule)
       (subst (λ x. Going extent marks near rule x calls answers 0 (job.Painting p) cells) (sym is.same_sizes) (begins answers p cells is new))
 
   pub going_more : (answers : List Answer) (i : ℕ) (j j' : Job R) (c : Call P) (a : Answer) (cells cells' : List Cell)
@@ -123,12 +123,12 @@ module _ {R P : Type 0} (extent : P → Sizes) (marks : P → Place → Bool) (n
 
   -- the same over the rule and the sizes that the job held at its beginning
   pub played : (p : Painting R) → IsPainting rule s p → (before : List Cell) (answers : List Answer) (i : ℕ) (j : Job R) (cells : List Cell) → begin_door s before ≡ None
-      → length answers ≡ length calls → length calls ≤ i → Going extent marks near p.rule p.space.sizes calls answers i j cells
+      → length answers ≡ length calls → length calls ≤ i → Going extent marks near p.rule p.grid.sizes calls answers i j cells
       → Played extent marks (near rule) rule s calls j answers before cells
   played p is before answers i j cells door long done h =
       ends before answers i j cells door long done
       (subst (λ x. Going extent marks near rule x calls answers i j cells) is.same_sizes
-      (subst (λ r. Going extent marks near r p.space.sizes calls answers i j cells) is.same_rule h))
+      (subst (λ r. Going extent marks near r p.grid.sizes calls answers i j cells) is.same_rule h))
 
 -- two runs that have finished with the same marks agree
 pub one_outcome : {R P Q : Type 0} (extent : P → Sizes) (marks : P → Place → Bool) (extent' : Q → Sizes) (marks' : Q → Place → Bool) (near : Near) (rule : R) (s : Sizes) (calls : List (Call P)) (calls' : List (Call Q))

@@ -1,5 +1,5 @@
 -- All rows of all axes: no call is refused, and the field is finished.
-use Rattle.std.proofs.Common.{◌≡◌, ℕ, ◌+◌, ◌-◌, ◌<◌, Bool, true, false, eqb, ltb, leb, List, length, Some, None, Option, sym, refl, ap, ◌∙◌, subst, ⊎_elim, arith}
+use Rattle.std.proofs.Common.{◌≡◌, ℕ, ◌+◌, ◌-◌, ◌<◌, Bool, true, false, eqb, ltb, leb, List, length, Some, None, Ok, Err, Option, Result, IsOk, sym, refl, ap, ◌∙◌, subst, ⊎_elim, arith}
 use Rattle.std.proofs.lemmas.Bool.{cases_Bool, cond-true, cond-false, eq-eqb, le-leb, lt-ltb}
 use Rattle.grid.specs.declared.cell.Cell.{Cell}
 use Rattle.grid.specs.declared.refusal.Refusal.{Refusal}
@@ -23,11 +23,13 @@ use Rattle.fields.proofs.Painting.{painted_holds}
 use Rattle.fields.proofs.Passing.{pass_goes}
 use Rattle.fields.proofs.StepUp.{step_up}
 use Rattle.job.specs.declared.states.Finished.{Finished}
+use Rattle.job.specs.declared.states.Kept.{Kept}
 use Rattle.job.specs.declared.states.Painting.{Painting}
 use Rattle.job.specs.declared.states.Working.{Working}
 use Rattle.job.specs.Cells.{marks_in, levels_in, painted_cells}
 use Rattle.job.specs.Doors.{begin_door, lent, start_door, raise_door, lent_row_door, some_place}
-use Rattle.job.specs.Moves.{IsPainting, IsWorking, IsFinished}
+use Rattle.job.specs.Changes.{Changes}
+use Rattle.job.specs.Moves.{Moves, IsPainting, IsWorking, IsFinished}
 use Rattle.job.proofs.RowWork.{lent_open}
 use Rattle.job.proofs.Writing.{some_place_at}
 use Rattle.replay.specs.Whole.{AxisDone, AllDone, field_door}
@@ -37,6 +39,29 @@ use Rattle.replay.proofs.Rowed.{marks_rowed, no_value_refused, which_place}
 -- an open door refuses nothing
 pub never_refused : (door : Option Refusal) (e : Refusal) → door ≡ None → door ≡ Some e → ⊥
 never_refused door e none some = let z : ◌≡◌ {A = ℕ} 0 1 = cc in omega arith
+
+-- so a call through it is done
+module _ {X S : Type 0} (r : Result X (Kept S)) (door : Option Refusal) (old : S) (P : X → Type 0) (moves : Moves r door old P) where
+  pub moves_on : door ≡ None → IsOk r
+  moves_on none = go r moves
+    where
+      go : (q : Result X (Kept S)) → Moves q door old P → IsOk q
+      go (Ok x) h = refl
+      go (Err kept) h = absurd (never_refused door kept.refusal none h.0)
+
+  pub moved_to : (x : X) → r ≡ Ok x → P x
+  moved_to x is = (subst (λ q. Moves q door old P) is moves).1
+
+module _ {X : Type 0} (r : Result X Refusal) (door : Option Refusal) (before after : List Cell) (New : Type 0) (changes : Changes r door before after New) where
+  pub goes_through : door ≡ None → IsOk r
+  goes_through none = go r changes
+    where
+      go : (q : Result X Refusal) → Changes q door before after New → IsOk q
+      go (Ok x) h = refl
+      go (Err e) h = absurd (never_refused door e none h.0)
+
+  pub changed : (x : X) → r ≡ Ok x → New
+  changed x is = (subst (λ q. Changes q door before after New) is changes).1
 
 pub begin_open : (s : Sizes) (cells : List Cell) → IsGrid s → length cells ≡ cell_count s → begin_door s cells ≡ None
 begin_open s cells grid fits =
@@ -101,35 +126,35 @@ mark_from s grid marks h =
 -- the axes below that of the job have been worked
 pub record Climbing {R : Type 0} (near : R → Near) (first : Working R) (before : List Cell) (w : Working R) (cells : List Cell) : Type 0 where
   pub same_rule : w.rule ≡ first.rule
-  pub same_sizes : w.space.sizes ≡ first.space.sizes
+  pub same_sizes : w.grid.sizes ≡ first.grid.sizes
   pub same_marks : marks_in cells ≡ marks_in before
-  pub field : FieldAt (near w.rule) w.space.sizes (marks_in cells) (w.axis.number - 1) cells
+  pub field : FieldAt (near w.rule) w.grid.sizes (marks_in cells) (w.axis.number - 1) cells
 
 module _ {R : Type 0} (near : R → Near) (first : Working R) (before : List Cell) where
-  pub climb_none : FieldAt (near first.rule) first.space.sizes (marks_in before) (first.axis.number - 1) before → Climbing near first before first before
+  pub climb_none : FieldAt (near first.rule) first.grid.sizes (marks_in before) (first.axis.number - 1) before → Climbing near first before first before
   climb_none field = record { same_rule = refl; same_sizes = refl; same_marks = refl; field = field }
 
-  module _ (w : Working R) (cells after : List Cell) (so_far : Climbing near first before w cells) (done : AxisDone (near w.rule) w.space.sizes w.axis.number cells after) where
-    pub climb_more : (next : Working R) → IsWorking w.rule w.space.sizes (w.axis.number + 1) next → Climbing near first before next after
+  module _ (w : Working R) (cells after : List Cell) (so_far : Climbing near first before w cells) (done : AxisDone (near w.rule) w.grid.sizes w.axis.number cells after) where
+    pub climb_more : (next : Working R) → IsWorking w.rule w.grid.sizes (w.axis.number + 1) next → Climbing near first before next after
     climb_more next is =
         let d : w.axis.number ≡ next.axis.number - 1 = omega (arith, is.on_axis) in
         record {
           same_rule = is.same_rule ∙ so_far.same_rule;
           same_sizes = is.same_sizes ∙ so_far.same_sizes;
           same_marks = done.same_marks ∙ so_far.same_marks;
-          field = subst (λ r. FieldAt (near r) next.space.sizes (marks_in after) (next.axis.number - 1) after) (sym is.same_rule)
+          field = subst (λ r. FieldAt (near r) next.grid.sizes (marks_in after) (next.axis.number - 1) after) (sym is.same_rule)
               (subst (λ s. FieldAt (near w.rule) s (marks_in after) (next.axis.number - 1) after) (sym is.same_sizes)
-              (subst (λ n. FieldAt (near w.rule) w.space.sizes (marks_in after) n after) d done.field));
+              (subst (λ n. FieldAt (near w.rule) w.grid.sizes (marks_in after) n after) d done.field));
         }
 
-    pub climb_all : (f : Finished R) → w.axis.number ≡ 3 → IsFinished w.rule w.space.sizes f
-        → AllDone (near first.rule) first.rule first.space.sizes f before after
+    pub climb_all : (f : Finished R) → w.axis.number ≡ 3 → IsFinished w.rule w.grid.sizes f
+        → AllDone (near first.rule) first.rule first.grid.sizes f before after
     climb_all f at_3 is =
-        let at : FieldAt (near w.rule) w.space.sizes (marks_in after) 3 after = subst (λ n. FieldAt (near w.rule) w.space.sizes (marks_in after) n after) at_3 done.field in
-        let whole : FinishedField (near w.rule) w.space.sizes (marks_in after) after = record { all_hold = at.all_hold; all_at_3 = at.all_at } in
+        let at : FieldAt (near w.rule) w.grid.sizes (marks_in after) 3 after = subst (λ n. FieldAt (near w.rule) w.grid.sizes (marks_in after) n after) at_3 done.field in
+        let whole : FinishedField (near w.rule) w.grid.sizes (marks_in after) after = record { all_hold = at.all_hold; all_at_3 = at.all_at } in
         record {
           same_marks = done.same_marks ∙ so_far.same_marks;
-          field = subst (λ r. FinishedField (near r) first.space.sizes (marks_in after) after) so_far.same_rule
+          field = subst (λ r. FinishedField (near r) first.grid.sizes (marks_in after) after) so_far.same_rule
               (subst (λ s. FinishedField (near w.rule) s (marks_in after) after) so_far.same_sizes whole);
           job = record { same_rule = is.same_rule ∙ so_far.same_rule; same_sizes = is.same_sizes ∙ so_far.same_sizes };
         }
@@ -152,20 +177,20 @@ module _ (s : Sizes) (grid : IsGrid s) (marks : Place → Bool) (outside : (at :
       ∙ cond-true (some_place (cell_count s) (marks_by_number s marks)) None (Some refusal.NoMark) (some_mark s marks some)
 
   pub loaded_field : {R : Type 0} (near : R → Near) (w : Working R) (rule : R) → IsWorking rule s 1 w
-      → FieldAt (near w.rule) w.space.sizes (marks_in cells) (w.axis.number - 1) cells
+      → FieldAt (near w.rule) w.grid.sizes (marks_in cells) (w.axis.number - 1) cells
   loaded_field near w rule is =
       let none : 0 ≡ w.axis.number - 1 = omega (arith, is.on_axis) in
       subst (λ t. FieldAt (near w.rule) t (marks_in cells) (w.axis.number - 1) cells) (sym is.same_sizes)
       (subst (λ n. FieldAt (near w.rule) s (marks_in cells) n cells) none (painted_holds (near w.rule) s (marks_in cells) cells loaded_painted))
 
   pub loaded_done : {R : Type 0} (near : R → Near) (w : Working R) (rule : R) → IsWorking rule s 1 w → (f : Finished R) (after : List Cell)
-      → AllDone (near w.rule) w.rule w.space.sizes f cells after → IsFinished rule s f × FinishedField (near rule) s (marks_by_number s marks) after
+      → AllDone (near w.rule) w.rule w.grid.sizes f cells after → IsFinished rule s f × FinishedField (near rule) s (marks_by_number s marks) after
   loaded_done near w rule is f after done =
       let same : marks_in after ≡ marks_by_number s marks = done.same_marks ∙ loaded_marks in (
         record { same_rule = done.job.same_rule ∙ is.same_rule; same_sizes = done.job.same_sizes ∙ is.same_sizes },
         subst (λ r. FinishedField (near r) s (marks_by_number s marks) after) is.same_rule
             (subst (λ t. FinishedField (near w.rule) t (marks_by_number s marks) after) is.same_sizes
-            (subst (λ m. FinishedField (near w.rule) w.space.sizes m after) same done.field)),
+            (subst (λ m. FinishedField (near w.rule) w.grid.sizes m after) same done.field)),
       )
 
 -- the two questions of a whole field
@@ -182,6 +207,6 @@ module _ (s : Sizes) (marks : Place → Bool) (cells : List Cell) (fits : length
       (⊎_elim (λ t. absurd (none (mark_from s grid marks t))) (λ f. f) (cases_Bool (some_place (cell_count s) (marks_by_number s marks))))
 
 -- a job that was painted and started, with its rule and its sizes
-pub same_start : {R : Type 0} (rule : R) (s : Sizes) (p : Painting R) (w : Working R) → IsPainting rule s p → IsWorking p.rule p.space.sizes 1 w → IsWorking rule s 1 w
+pub same_start : {R : Type 0} (rule : R) (s : Sizes) (p : Painting R) (w : Working R) → IsPainting rule s p → IsWorking p.rule p.grid.sizes 1 w → IsWorking rule s 1 w
 same_start rule s p w painted started =
     record { same_rule = started.same_rule ∙ painted.same_rule; same_sizes = started.same_sizes ∙ painted.same_sizes; on_axis = started.on_axis }

@@ -97,14 +97,14 @@ module _ {R P : Type 0} (extent : P → Sizes) (marks : P → Place → Bool) (n
         subst (λ x. Called extent marks near (behind door next) j c j x before after) (sym an) (by_refusal door next e j after ch.0 refl ch.1)
 
   -- marking and wiping
-  module _ (p : Painting R) (before : List Cell) (was : Painted p.space.sizes (marks_in before) before) where
+  module _ (p : Painting R) (before : List Cell) (was : Painted p.grid.sizes (marks_in before) before) where
     by_painting : {X : Type 0} (c : Call P) (at : Place) (mark : Bool) (r : Result X Refusal) (a : Answer) (after : List Cell)
-        → Paints r p.space.sizes at mark before after → MatchResult r (λ _. a ≡ answer.Done) (λ e. a ≡ answer.Refused e)
-        → (a ≡ answer.Done → CellPainted p.space.sizes at mark before after → Accepted marks near (shown (job.Painting p) before) c a before after)
-        → Called extent marks near (behind (place_door p.space.sizes at) (with_mark (shown (job.Painting p) before) at mark)) (job.Painting p) c (job.Painting p) a before after
+        → Paints r p.grid.sizes at mark before after → MatchResult r (λ _. a ≡ answer.Done) (λ e. a ≡ answer.Refused e)
+        → (a ≡ answer.Done → CellPainted p.grid.sizes at mark before after → Accepted marks near (shown (job.Painting p) before) c a before after)
+        → Called extent marks near (behind (place_door p.grid.sizes at) (with_mark (shown (job.Painting p) before) at mark)) (job.Painting p) c (job.Painting p) a before after
     by_painting c at mark r a after h an told =
-        let s = p.space.sizes in
-        let k = cell_number p.space.sizes at in
+        let s = p.grid.sizes in
+        let k = cell_number p.grid.sizes at in
         by_change (job.Painting p) c before was.one_each was (place_door s at) (with_mark (shown (job.Painting p) before) at mark) r a after
         (after ≡ set before k (painted mark k)) h an
         (λ opened done new.
@@ -120,25 +120,25 @@ module _ {R P : Type 0} (extent : P → Sizes) (marks : P → Place → Bool) (n
         })
 
     pub mark_called : {X : Type 0} (c : Call P) (at : Place) → c ≡ call.Mark at → (r : Result X Refusal) (a : Answer) (after : List Cell)
-        → MatchResult r (λ _. a ≡ answer.Done) (λ e. a ≡ answer.Refused e) → Paints r p.space.sizes at true before after
+        → MatchResult r (λ _. a ≡ answer.Done) (λ e. a ≡ answer.Refused e) → Paints r p.grid.sizes at true before after
         → Called extent marks near (step extent marks (shown (job.Painting p) before) c) (job.Painting p) c (job.Painting p) a before after
     mark_called c at e r a after an h =
         at_call (job.Painting p) (job.Painting p) a before after (call.Mark at) c e (by_painting (call.Mark at) at true r a after h an (λ x y. (x, y)))
 
     pub wipe_called : {X : Type 0} (c : Call P) (at : Place) → c ≡ call.Wipe at → (r : Result X Refusal) (a : Answer) (after : List Cell)
-        → MatchResult r (λ _. a ≡ answer.Done) (λ e. a ≡ answer.Refused e) → Paints r p.space.sizes at false before after
+        → MatchResult r (λ _. a ≡ answer.Done) (λ e. a ≡ answer.Refused e) → Paints r p.grid.sizes at false before after
         → Called extent marks near (step extent marks (shown (job.Painting p) before) c) (job.Painting p) c (job.Painting p) a before after
     wipe_called c at e r a after an h =
         at_call (job.Painting p) (job.Painting p) a before after (call.Wipe at) c e (by_painting (call.Wipe at) at false r a after h an (λ x y. (x, y)))
 
     pub load_called : ((q : P) (at : Place) → inside (extent q) at ≡ false → marks q at ≡ false)
         → {X : Type 0} (c : Call P) (q : P) → c ≡ call.Load q → (r : Result X Refusal) (a : Answer) (after : List Cell)
-        → MatchResult r (λ _. a ≡ answer.Done) (λ e. a ≡ answer.Refused e) → Loads r p.space.sizes (extent q) (marks q) before after
+        → MatchResult r (λ _. a ≡ answer.Done) (λ e. a ≡ answer.Refused e) → Loads r p.grid.sizes (extent q) (marks q) before after
         → Called extent marks near (step extent marks (shown (job.Painting p) before) c) (job.Painting p) c (job.Painting p) a before after
     load_called outside c q e r a after an h =
-        let s = p.space.sizes in
-        let n = cell_count p.space.sizes in
-        let new-marks = marks_by_number p.space.sizes (marks q) in
+        let s = p.grid.sizes in
+        let n = cell_count p.grid.sizes in
+        let new-marks = marks_by_number p.grid.sizes (marks q) in
         at_call (job.Painting p) (job.Painting p) a before after (call.Load q) c e
         (by_change (job.Painting p) (call.Load q) before was.one_each was (load_door s (extent q)) (with_marks (shown (job.Painting p) before) new-marks) r a after
         (after ≡ painted_cells new-marks n) h an
@@ -157,11 +157,11 @@ module _ {R P : Type 0} (extent : P → Sizes) (marks : P → Place → Bool) (n
         }))
 
     -- from painting to axis 1
-    pub start_called : (c : Call P) (w : Working R) → c ≡ call.Start → lent p.space.sizes before (start_door p.space.sizes (marks_in before)) ≡ None
-        → IsWorking p.rule p.space.sizes 1 w
+    pub start_called : (c : Call P) (w : Working R) → c ≡ call.Start → lent p.grid.sizes before (start_door p.grid.sizes (marks_in before)) ≡ None
+        → IsWorking p.rule p.grid.sizes 1 w
         → Called extent marks near (step extent marks (shown (job.Painting p) before) c) (job.Painting p) c (job.Working w) answer.Done before before
     start_called c w e h is =
-        let s = p.space.sizes in
+        let s = p.grid.sizes in
         at_call (job.Painting p) (job.Working w) answer.Done before before call.Start c e
         (subst (λ o. Called extent marks near (behind o (at_stage (shown (job.Painting p) before) (working 1))) (job.Painting p) call.Start (job.Working w) answer.Done before before)
         (sym (sym (lent_open s before _ was.one_each) ∙ h))
@@ -174,7 +174,7 @@ module _ {R P : Type 0} (extent : P → Sizes) (marks : P → Place → Bool) (n
         }))
 
     pub start_refused : (c : Call P) (kept : Painting R) (refusal : Refusal) → c ≡ call.Start
-        → lent p.space.sizes before (start_door p.space.sizes (marks_in before)) ≡ Some refusal → kept ≡ p
+        → lent p.grid.sizes before (start_door p.grid.sizes (marks_in before)) ≡ Some refusal → kept ≡ p
         → Called extent marks near (step extent marks (shown (job.Painting p) before) c) (job.Painting p) c (job.Painting kept) (answer.Refused refusal) before before
     start_refused c kept refusal e h same =
         at_call (job.Painting p) (job.Painting kept) (answer.Refused refusal) before before call.Start c e
@@ -182,23 +182,23 @@ module _ {R P : Type 0} (extent : P → Sizes) (marks : P → Place → Bool) (n
 
   -- a row
   pub row_called : (ceiling : ℕ → ℕ) → Order ceiling near → Bounded ceiling near
-      → (w : Working R) (before : List Cell) → AllHold near w.space.sizes (marks_in before) before
+      → (w : Working R) (before : List Cell) → AllHold near w.grid.sizes (marks_in before) before
       → {X : Type 0} (c : Call P) (m : ℕ) → c ≡ call.Row m → (r : Result X Refusal) (a : Answer) (after : List Cell)
-      → MatchResult r (λ _. a ≡ answer.Done) (λ e. a ≡ answer.Refused e) → WorksRow r near ceiling w.space.sizes w.axis.number m before after
+      → MatchResult r (λ _. a ≡ answer.Done) (λ e. a ≡ answer.Refused e) → WorksRow r near ceiling w.grid.sizes w.axis.number m before after
       → Called extent marks near (step extent marks (shown (job.Working w) before) c) (job.Working w) c (job.Working w) a before after
   row_called ceiling order bounded w before hold c m e r a after an h =
-      let s = w.space.sizes in
+      let s = w.grid.sizes in
       let d = w.axis.number in
       let next = with_row (shown (job.Working w) before) w.axis.number m in
-      let door = row_door w.space.sizes w.axis.number m (levels_in before) None in
-      let shut = no_value_refused ceiling near bounded s w.space.grid d m w.axis.on before hold in
+      let door = row_door w.grid.sizes w.axis.number m (levels_in before) None in
+      let shut = no_value_refused ceiling near bounded s w.grid.is d m w.axis.on before hold in
       at_call (job.Working w) (job.Working w) a before after (call.Row m) c e
       (by_change (job.Working w) (call.Row m) before hold.one_each hold door next r a after
       (GridRowDone near s d m before after)
       (subst (λ o. Changes r o before after (GridRowDone near s d m before after)) (shut ∙ sym (lent_open s before door hold.one_each)) h) an
       (λ opened done new.
-      let has = row_has ceiling near bounded s w.space.grid d m w.axis.on before hold opened in
-      let stood = row_stood ceiling near bounded s w.space.grid d m w.axis.on before hold opened in
+      let has = row_has ceiling near bounded s w.grid.is d m w.axis.on before hold opened in
+      let stood = row_stood ceiling near bounded s w.grid.is d m w.axis.on before hold opened in
       let up = step_up ceiling near order bounded s (marks_in before) d m has before after hold stood new in
       let same = marks_rowed near s d m before after new in
       record {
@@ -209,13 +209,13 @@ module _ {R P : Type 0} (extent : P → Sizes) (marks : P → Place → Bool) (n
         sound = subst (λ x. AllHold near s x after) (sym same) up.all_hold;
       }))
 
-  module _ (w : Working R) (before : List Cell) (hold : AllHold near w.space.sizes (marks_in before) before) where
+  module _ (w : Working R) (before : List Cell) (hold : AllHold near w.grid.sizes (marks_in before) before) where
     climb_called : (c : Call P) (v : Working R) → c ≡ call.Raise
-        → lent w.space.sizes before (raise_door w.space.sizes w.axis.number (levels_in before)) ≡ None
-        → w.axis.number < 3 → IsWorking w.rule w.space.sizes (w.axis.number + 1) v
+        → lent w.grid.sizes before (raise_door w.grid.sizes w.axis.number (levels_in before)) ≡ None
+        → w.axis.number < 3 → IsWorking w.rule w.grid.sizes (w.axis.number + 1) v
         → Called extent marks near (step extent marks (shown (job.Working w) before) c) (job.Working w) c (job.Working v) answer.Done before before
     climb_called c v e h below is =
-        let s = w.space.sizes in
+        let s = w.grid.sizes in
         at_call (job.Working w) (job.Working v) answer.Done before before call.Raise c e
         (subst (λ o. Called extent marks near (behind o (at_stage (shown (job.Working w) before) (above w.axis.number))) (job.Working w) call.Raise (job.Working v) answer.Done before before)
         (sym (sym (lent_open s before _ hold.one_each) ∙ h))
@@ -230,13 +230,13 @@ module _ {R P : Type 0} (extent : P → Sizes) (marks : P → Place → Bool) (n
 
     -- after axis 3
     finish_called : (c : Call P) (f : Finished R) → c ≡ call.Raise
-        → lent w.space.sizes before (raise_door w.space.sizes w.axis.number (levels_in before)) ≡ None
-        → w.axis.number ≡ 3 → IsFinished w.rule w.space.sizes f
+        → lent w.grid.sizes before (raise_door w.grid.sizes w.axis.number (levels_in before)) ≡ None
+        → w.axis.number ≡ 3 → IsFinished w.rule w.grid.sizes f
         → Called extent marks near (step extent marks (shown (job.Working w) before) c) (job.Working w) c (job.Finished f) answer.Done before before
     finish_called c f e h at_3 is =
-        let s = w.space.sizes in
+        let s = w.grid.sizes in
         let d = w.axis.number in
-        let opened : raise_door w.space.sizes w.axis.number (levels_in before) ≡ None = sym (lent_open s before _ hold.one_each) ∙ h in
+        let opened : raise_door w.grid.sizes w.axis.number (levels_in before) ≡ None = sym (lent_open s before _ hold.one_each) ∙ h in
         let all = passed_yes (all_places (cell_count s) (λ k. eqb (levels_in before k) d)) _ _ opened in
         let raised : above w.axis.number ≡ finished = ap above at_3 in
         at_call (job.Working w) (job.Finished f) answer.Done before before call.Raise c e
@@ -253,8 +253,8 @@ module _ {R P : Type 0} (extent : P → Sizes) (marks : P → Place → Bool) (n
 
     -- to the next axis, or to the end
     pub raise_called : (c : Call P) (raised : Raised R) (j : Job R) → c ≡ call.Raise → j ≡ raised_job raised
-        → lent w.space.sizes before (raise_door w.space.sizes w.axis.number (levels_in before)) ≡ None
-        → Rises w.rule w.space.sizes w.axis.number raised
+        → lent w.grid.sizes before (raise_door w.grid.sizes w.axis.number (levels_in before)) ≡ None
+        → Rises w.rule w.grid.sizes w.axis.number raised
         → Called extent marks near (step extent marks (shown (job.Working w) before) c) (job.Working w) c j answer.Done before before
     raise_called c (Next v) j e led h up =
         subst (λ i. Called extent marks near (step extent marks (shown (job.Working w) before) c) (job.Working w) c i answer.Done before before) (sym led) (climb_called c v e h up.0 up.1)
@@ -262,7 +262,7 @@ module _ {R P : Type 0} (extent : P → Sizes) (marks : P → Place → Bool) (n
         subst (λ i. Called extent marks near (step extent marks (shown (job.Working w) before) c) (job.Working w) c i answer.Done before before) (sym led) (finish_called c f e h up.0 up.1)
 
     pub raise_refused : (c : Call P) (kept : Working R) (refusal : Refusal) → c ≡ call.Raise
-        → lent w.space.sizes before (raise_door w.space.sizes w.axis.number (levels_in before)) ≡ Some refusal → kept ≡ w
+        → lent w.grid.sizes before (raise_door w.grid.sizes w.axis.number (levels_in before)) ≡ Some refusal → kept ≡ w
         → Called extent marks near (step extent marks (shown (job.Working w) before) c) (job.Working w) c (job.Working kept) (answer.Refused refusal) before before
     raise_refused c kept refusal e h same =
         at_call (job.Working w) (job.Working kept) (answer.Refused refusal) before before call.Raise c e
@@ -274,32 +274,32 @@ module _ {R P : Type 0} (extent : P → Sizes) (marks : P → Place → Bool) (n
       → Called extent marks near (accepted (reopened (shown j before))) j call.Reopen (job.Painting p) answer.Done before after
   reopens j before fits p after is new =
       let n = length before in
-      let all : Painted p.space.sizes (marks_in after) after =
-      subst (λ x. Painted p.space.sizes (marks_in x) x) (sym new) (painted_all (marks_in before) n p.space.sizes (fits ∙ ap cell_count (sym is.same_sizes))) in
+      let all : Painted p.grid.sizes (marks_in after) after =
+      subst (λ x. Painted p.grid.sizes (marks_in x) x) (sym new) (painted_all (marks_in before) n p.grid.sizes (fits ∙ ap cell_count (sym is.same_sizes))) in
       record {
         told = (refl, new);
-        book = same_book is.same_sizes refl (ap marks_in new ∙ marks_painted (marks_in before) n (marks_past before)) (levels_0 p.space.sizes after all);
+        book = same_book is.same_sizes refl (ap marks_in new ∙ marks_painted (marks_in before) n (marks_past before)) (levels_0 p.grid.sizes after all);
         same_rule = is.same_rule;
         same_sizes = is.same_sizes;
         sound = all;
       }
 
-  pub work_reopened : (w : Working R) (before : List Cell) → AllHold near w.space.sizes (marks_in before) before
-      → (c : Call P) (p : Painting R) (after : List Cell) → c ≡ call.Reopen → IsPainting w.rule w.space.sizes p
+  pub work_reopened : (w : Working R) (before : List Cell) → AllHold near w.grid.sizes (marks_in before) before
+      → (c : Call P) (p : Painting R) (after : List Cell) → c ≡ call.Reopen → IsPainting w.rule w.grid.sizes p
       → after ≡ painted_cells (marks_in before) (length before)
       → Called extent marks near (step extent marks (shown (job.Working w) before) c) (job.Working w) c (job.Painting p) answer.Done before after
   work_reopened w before hold c p after e is new =
       at_call (job.Working w) (job.Painting p) answer.Done before after call.Reopen c e (reopens (job.Working w) before hold.one_each p after is new)
 
-  module _ (f : Finished R) (before : List Cell) (field : FinishedField near f.space.sizes (marks_in before) before) where
-    pub field_reopened : (c : Call P) (p : Painting R) (after : List Cell) → c ≡ call.Reopen → IsPainting f.rule f.space.sizes p
+  module _ (f : Finished R) (before : List Cell) (field : FinishedField near f.grid.sizes (marks_in before) before) where
+    pub field_reopened : (c : Call P) (p : Painting R) (after : List Cell) → c ≡ call.Reopen → IsPainting f.rule f.grid.sizes p
         → after ≡ painted_cells (marks_in before) (length before)
         → Called extent marks near (step extent marks (shown (job.Finished f) before) c) (job.Finished f) c (job.Painting p) answer.Done before after
     field_reopened c p after e is new =
         at_call (job.Finished f) (job.Painting p) answer.Done before after call.Reopen c e (reopens (job.Finished f) before field.all_hold.one_each p after is new)
 
     -- a look outside the grid
-    pub look_refused : (c : Call P) (at : Place) (refusal : Refusal) → c ≡ call.Look at → lent f.space.sizes before (place_door f.space.sizes at) ≡ Some refusal
+    pub look_refused : (c : Call P) (at : Place) (refusal : Refusal) → c ≡ call.Look at → lent f.grid.sizes before (place_door f.grid.sizes at) ≡ Some refusal
         → Called extent marks near (step extent marks (shown (job.Finished f) before) c) (job.Finished f) c (job.Finished f) (answer.Refused refusal) before before
     look_refused c at refusal e h =
         at_call (job.Finished f) (job.Finished f) (answer.Refused refusal) before before (call.Look at) c e

@@ -23,9 +23,9 @@ rule_of (job.Working j) = j.rule
 rule_of (job.Finished j) = j.rule
 
 abbrev pub sizes_of : {R : Type 0} → Job R → Sizes
-sizes_of (job.Painting j) = j.space.sizes
-sizes_of (job.Working j) = j.space.sizes
-sizes_of (job.Finished j) = j.space.sizes
+sizes_of (job.Painting j) = j.grid.sizes
+sizes_of (job.Working j) = j.grid.sizes
+sizes_of (job.Finished j) = j.grid.sizes
 
 abbrev pub stage_of : {R : Type 0} → Job R → Stage
 stage_of (job.Painting j) = painting

@@ -1,3 +1,6 @@
+ghost use Rattle.std.specs.Prelude.{◌≡◌, MatchResult};
+ghost use Rattle.replay.specs.declared.calls.Answer.TheVariants.{Done, Refused};
+
 use grid::Refusal;
 
 /// A call on a job, with its arguments.
@@ -24,4 +27,16 @@ pub enum Answer {
     Refused(Refusal),
     /// The job's stage has no such call.
     Absent,
+}
+
+/// The answer of a call that keeps its state.
+impl From<Result<(), Refusal>> for Answer {
+    ghost from_gives = { λ r answer. MatchResult r (λ _. answer ≡ Done) (λ refusal. answer ≡ Refused refusal) };
+
+    fn from(outcome: Result<(), Refusal>) -> Answer {
+        match outcome {
+            Ok(()) => Answer::Done,
+            Err(refusal) => Answer::Refused(refusal),
+        }
+    }
 }

@@ -35,8 +35,8 @@ pub fn replay<R: Rule, P: Picture>(
     };
     let mut job = Job::Painting(painting);
     let mut room = Room::new();
-    for i in 0..calls.len() {
-        let (next, answer) = job.call(cells, &calls[i], &mut room);
+    for (i, call) in calls.iter().enumerate() {
+        let (next, answer) = job.call(cells, call, &mut room);
         job = next;
         answers[i] = answer;
     }

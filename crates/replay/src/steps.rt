@@ -1,26 +1,16 @@
 //! One call on a job at any stage.
-ghost use Rattle.std.specs.Prelude.{◌≡◌, MatchResult};
+ghost use Rattle.std.specs.Prelude.{◌≡◌};
 ghost use Rattle.replay.specs.Book.{step};
 ghost use Rattle.replay.specs.Jobs.{raised_job, rule_of, shown, Sound};
 ghost use Rattle.replay.specs.Runs.{Called};
 
 use crate::calls::{Answer, Call};
 use crate::jobs::Job;
-use grid::{Cell, Refusal};
+use grid::Cell;
 use job::{Finished, Painting, Raised, Working};
 use pictures::Picture;
 use rows::Room;
 use rules::Rule;
-
-/// The answer of a call that keeps its state.
-fn answer_of(r: Result<(), Refusal>) -> Answer
-    ensures { MatchResult r (λ _. result ≡ Answer.Done) (λ e. result ≡ Answer.Refused e) }
-{
-    match r {
-        Ok(()) => Answer::Done,
-        Err(refusal) => Answer::Refused(refusal),
-    }
-}
 
 fn call_painting<R: Rule, P: Picture>(
     job: Painting<R>,
@@ -32,15 +22,15 @@ fn call_painting<R: Rule, P: Picture>(
 {
     match call {
         Call::Mark(place) => {
-            let answer = answer_of(job.mark(cells, *place));
+            let answer = Answer::from(job.mark(cells, *place));
             (Job::Painting(job), answer)
         }
         Call::Wipe(place) => {
-            let answer = answer_of(job.wipe(cells, *place));
+            let answer = Answer::from(job.wipe(cells, *place));
             (Job::Painting(job), answer)
         }
         Call::Load(picture) => {
-            let answer = answer_of(job.load(cells, picture));
+            let answer = Answer::from(job.load(cells, picture));
             (Job::Painting(job), answer)
         }
         Call::Start => match job.start(cells) {
@@ -55,12 +45,14 @@ fn call_painting<R: Rule, P: Picture>(
 }
 
 /// The job to which a raise has led.
-fn raised_job<R: Rule>(raised: Raised<R>) -> Job<R>
-    ensures { result ≡ raised_job raised }
-{
-    match raised {
-        Raised::Next(next) => Job::Working(next),
-        Raised::Last(last) => Job::Finished(last),
+impl<R> From<Raised<R>> for Job<R> {
+    ghost from_gives = { λ raised job. job ≡ raised_job raised };
+
+    fn from(raised: Raised<R>) -> Job<R> {
+        match raised {
+            Raised::Next(next) => Job::Working(next),
+            Raised::Last(last) => Job::Finished(last),
+        }
     }
 }
 
@@ -75,11 +67,11 @@ fn call_working<R: Rule, P: Picture>(
 {
     match call {
         Call::Row(number) => {
-            let answer = answer_of(job.row_in(cells, *number, room));
+            let answer = Answer::from(job.row_in(cells, *number, room));
             (Job::Working(job), answer)
         }
         Call::Raise => match job.raise(cells) {
-            Ok(raised) => (raised_job(raised), Answer::Done),
+            Ok(raised) => (Job::from(raised), Answer::Done),
             Err(kept) => (Job::Working(kept.state), Answer::Refused(kept.refusal)),
         },
         Call::Reopen => match job.reopen(cells) {

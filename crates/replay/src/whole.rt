@@ -21,26 +21,18 @@ fn paint_picture<R: Rule, P: Picture>(rule: R, picture: &P, cells: &mut [Cell]) 
     ensures job { IsPainting rule (P.extent picture.now) result }
     ensures cells { cells.new ≡ painted_cells (marks_by_number (P.extent picture.now) (P.marks picture.now)) (cell_count (P.extent picture.now)) }
 {
-    let painting = match begin(rule, picture.sizes(), cells) {
-        Ok(painting) => painting,
-        Err(_) => unreachable(),
-    };
-    match painting.load(cells, picture) {
-        Ok(()) => painting,
-        Err(_) => unreachable(),
-    }
+    let painting = begin(rule, picture.sizes(), cells).unwrap();
+    painting.load(cells, picture).unwrap();
+    painting
 }
 
 /// Leads a job with a mark to axis 1.
 fn started<R: Rule>(job: Painting<R>, cells: &[Cell]) -> Working<R>
-    requires cells { length cells.now ≡ cell_count job.space.sizes }
-    requires mark { start_door job.space.sizes (marks_in cells.now) ≡ None }
-    ensures { IsWorking job.rule job.space.sizes 1 result }
+    requires cells { length cells.now ≡ cell_count job.grid.sizes }
+    requires mark { start_door job.grid.sizes (marks_in cells.now) ≡ None }
+    ensures { IsWorking job.rule job.grid.sizes 1 result }
 {
-    match job.start(cells) {
-        Ok(working) => working,
-        Err(_) => unreachable(),
-    }
+    job.start(cells).unwrap()
 }
 
 /// Works all rows of the job's axis.
@@ -50,29 +42,24 @@ fn work_axis<R: Rule, W: Watch>(
     room: &mut Room,
     watch: &mut W,
 )
-    requires { FieldAt (R.near job.now.rule) job.now.space.sizes (marks_in cells.old) (job.now.axis.number - 1) cells.old }
-    ensures { AxisDone (R.near job.now.rule) job.now.space.sizes job.now.axis.number cells.old cells.new }
+    requires { FieldAt (R.near job.now.rule) job.now.grid.sizes (marks_in cells.old) (job.now.axis.number - 1) cells.old }
+    ensures { AxisDone (R.near job.now.rule) job.now.grid.sizes job.now.axis.number cells.old cells.new }
 {
     let axis = job.axis_number();
     let count = job.row_count();
     watch.rows_worked(axis, 0, count);
     for number in 0..count {
-        match job.row_in(cells, number, room) {
-            Ok(()) => watch.rows_worked(axis, number + 1, count),
-            Err(_) => unreachable(),
-        }
+        job.row_in(cells, number, room).unwrap();
+        watch.rows_worked(axis, number + 1, count);
     }
 }
 
 /// Leads a job whose rows are all worked to the next axis, or to the end.
 fn raised<R: Rule>(job: Working<R>, cells: &[Cell]) -> Raised<R>
-    requires { FieldAt (R.near job.rule) job.space.sizes (marks_in cells.now) job.axis.number cells.now }
-    ensures { Rises job.rule job.space.sizes job.axis.number result }
+    requires { FieldAt (R.near job.rule) job.grid.sizes (marks_in cells.now) job.axis.number cells.now }
+    ensures { Rises job.rule job.grid.sizes job.axis.number result }
 {
-    match job.raise(cells) {
-        Ok(raised) => raised,
-        Err(_) => unreachable(),
-    }
+    job.raise(cells).unwrap()
 }
 
 /// Works all rows of the job's axis and of those after it.
@@ -82,8 +69,8 @@ fn finish<R: Rule, W: Watch>(
     room: &mut Room,
     watch: &mut W,
 ) -> Finished<R>
-    requires { FieldAt (R.near job.rule) job.space.sizes (marks_in cells.old) (job.axis.number - 1) cells.old }
-    ensures { AllDone (R.near job.rule) job.rule job.space.sizes result cells.old cells.new }
+    requires { FieldAt (R.near job.rule) job.grid.sizes (marks_in cells.old) (job.axis.number - 1) cells.old }
+    ensures { AllDone (R.near job.rule) job.rule job.grid.sizes result cells.old cells.new }
 {
     let mut working = job;
     loop {
@@ -118,8 +105,7 @@ pub fn find_field_watched<R: Rule, P: Picture, W: Watch>(
 ) -> Result<Finished<R>, Kept<R>>
     ensures { FindsField result (R.near rule) rule (P.extent picture.now) (marks_by_number (P.extent picture.now) (P.marks picture.now)) cells.old cells.new }
 {
-    let sizes = picture.sizes();
-    if cells.len() != (sizes.nx * sizes.ny * sizes.nz) as usize {
+    if !picture.grid().fits(cells) {
         return Err(Kept {
             state: rule,
             refusal: Refusal::CellCount,

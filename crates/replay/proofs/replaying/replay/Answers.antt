@@ -15,7 +15,7 @@ call-next-requires g c =
 
 pub loop-i-preserved : goal.loop-i-preserved
 loop-i-preserved g c =
-    going_more g.P.Picture.extent g.P.Picture.marks g.R.Rule.near c.in-Ok.painting.rule c.in-Ok.painting.space.sizes c.args.calls.now
+    going_more g.P.Picture.extent g.P.Picture.marks g.R.Rule.near c.in-Ok.painting.rule c.in-Ok.painting.grid.sizes c.args.calls.now
     c.loop-i.answers c.loop-i.i c.loop-i.job c.call-next.result.0 c.index-calls-i.result c.call-next.result.1 c.loop-i.cells c.call-next.new.cells
     (omega arith) (omega arith) c.index-calls-i.is c.loop-i.invariant c.call-next.ensures
 

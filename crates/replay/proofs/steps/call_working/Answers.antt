@@ -5,14 +5,14 @@ pub returns-in-Row : goal.returns-in-Row
 returns-in-Row g c =
     let rule = c.args.job.rule in
     row_called g.P.Picture.extent g.P.Picture.marks (g.R.Rule.near rule) (g.R.Rule.ceiling rule) (g.met.R.Rule.order rule) (g.met.R.Rule.bounded rule)
-    c.args.job c.args.cells.now c.requires c.args.call.now c.in-Row.number c.in-Row.is c.row_in.result c.answer_of-answer.result c.row_in.new.cells
-    c.answer_of-answer.ensures c.row_in.ensures
+    c.args.job c.args.cells.now c.requires c.args.call.now c.in-Row.number c.in-Row.is c.row_in.result c.from-answer.result c.row_in.new.cells
+    c.from-answer.ensures c.row_in.ensures
 
 pub returns-in-Ok : goal.returns-in-Ok
 returns-in-Ok g c =
     let h = c.in-Ok.ensures in
     raise_called g.P.Picture.extent g.P.Picture.marks (g.R.Rule.near c.args.job.rule) c.args.job c.args.cells.now c.requires
-    c.args.call.now c.in-Ok.raised c.raised_job.result c.in-Raise.is c.raised_job.ensures h.0 h.1
+    c.args.call.now c.in-Ok.raised c.from.result c.in-Raise.is c.from.ensures h.0 h.1
 
 pub returns-in-Err : goal.returns-in-Err
 returns-in-Err g c =

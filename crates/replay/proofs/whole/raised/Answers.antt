@@ -1,8 +1,10 @@
-use Rattle.replay.proofs.Sweep.{never_refused, raise_open}
+use Rattle.replay.proofs.Sweep.{moves_on, moved_to, raise_open}
 use Rattle.replay.proofs.whole.raised.Goals as goal
 
-pub unreachable-requires : goal.unreachable-requires
-unreachable-requires g c =
-    let h = c.in-Err.ensures in
+pub unwrap-requires : goal.unwrap-requires
+unwrap-requires g c =
     let job = c.args.job in
-    never_refused _ _ (raise_open job.space.sizes job.axis.number c.args.cells.now c.requires.all_hold.one_each c.requires.all_at) h.0
+    moves_on _ _ _ _ c.raise.ensures (raise_open job.grid.sizes job.axis.number c.args.cells.now c.requires.all_hold.one_each c.requires.all_at)
+
+pub returns : goal.returns
+returns g c = moved_to _ _ _ _ c.raise.ensures c.unwrap.result c.unwrap.ensures
