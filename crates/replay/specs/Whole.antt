@@ -11,6 +11,8 @@ use Rattle.job.specs.declared.states.Kept.{Kept}
 use Rattle.job.specs.Cells.{marks_in}
 use Rattle.job.specs.Doors.{lent, start_door}
 use Rattle.job.specs.Moves.{IsFinished}
+use Rattle.replay.specs.declared.new_cells.FieldError.{FieldError}
+use Rattle.replay.specs.declared.new_cells.FieldError.TheVariants.{Refused, NoMemory}
 
 -- are exactly as many cells lent as the picture has, and is one of them marked?
 abbrev pub field_door : Sizes → Marks → List Cell → Option Refusal
@@ -33,3 +35,13 @@ pub record AllDone {R : Type 0} (near : Near) (rule : R) (s : Sizes) (f : Finish
   pub same_marks : marks_in after ≡ marks_in before
   pub field : FinishedField near s (marks_in after) after
   pub job : IsFinished rule s f
+
+-- a cell is marked, and the cells are the finished field: each holds a nearest marked cell and its distance
+pub record FieldFound (near : Near) (s : Sizes) (marks : Marks) (cells : List Cell) : Type 0 where
+  pub some_mark : start_door s marks ≡ None
+  pub finished : FinishedField near s marks cells
+
+-- why a field is not found: no cell is marked, or want of memory
+abbrev pub FieldFails : Sizes → Marks → FieldError → Type 0
+FieldFails s marks (Refused e) = start_door s marks ≡ Some e
+FieldFails s marks NoMemory = Unit {0}
