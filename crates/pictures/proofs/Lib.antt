@@ -5,6 +5,5 @@ pub mod Corners
 pub mod SameFaces
 pub mod Crossings
 pub mod Halving
-pub mod Greying
 pub mod Counting
 pub mod Finding

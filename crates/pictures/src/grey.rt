@@ -1,7 +1,5 @@
-ghost use Rattle.std.specs.Prelude.{length};
-ghost use Rattle.grid.specs.Doors.{Admits};
-ghost use Rattle.pictures.specs.Doors.{grey_door};
-ghost use Rattle.pictures.specs.Greys.{IsGrey, grey_extent, grey_marks, grey_lawful};
+ghost use Rattle.std.specs.Prelude.{◌≡◌, length};
+ghost use Rattle.grid.specs.Geometry.{cell_count};
 
 use crate::picture::Picture;
 use grid::{Grid, Refusal, Sizes};
@@ -10,12 +8,17 @@ use grid::{Grid, Refusal, Sizes};
 /// marks its cell; threshold 0 marks them all.
 #[derive(Clone, Copy)]
 pub struct Grey<'a> {
-    sizes: Sizes,
+    grid: Grid,
     threshold: u8,
     bytes: &'a [u8],
+    ghost one_byte_each: { length bytes.now ≡ cell_count grid.sizes },
 }
 
 impl<'a> Grey<'a> {
+    ghost use Rattle.grid.specs.Doors.{Admits};
+    ghost use Rattle.pictures.specs.Doors.{grey_door};
+    ghost use Rattle.pictures.specs.Greys.{IsGrey};
+
     /// The picture of these sizes over these bytes.
     ///
     /// Refuses a size that is not from 1 to 1,023, then more than 16,777,216 cells, then another number of bytes than
@@ -23,12 +26,12 @@ impl<'a> Grey<'a> {
     pub fn new(sizes: Sizes, threshold: u8, bytes: &'a [u8]) -> Result<Grey<'a>, Refusal>
         ensures { Admits result (grey_door sizes (length bytes.now)) (λ g. IsGrey g sizes threshold bytes.now) }
     {
-        let count = sizes.count_cells()?;
-        if bytes.len() != count as usize {
+        let grid = Grid::new(sizes)?;
+        if !grid.fits(bytes) {
             return Err(Refusal::ByteCount);
         }
         Ok(Grey {
-            sizes,
+            grid,
             threshold,
             bytes,
         })
@@ -36,6 +39,8 @@ impl<'a> Grey<'a> {
 }
 
 impl<'a> Picture for Grey<'a> {
+    ghost use Rattle.pictures.specs.Greys.{grey_extent, grey_marks, grey_lawful};
+
     ghost extent = { grey_extent };
 
     ghost marks = { grey_marks };
@@ -43,15 +48,14 @@ impl<'a> Picture for Grey<'a> {
     ghost lawful = { grey_lawful };
 
     fn grid(&self) -> Grid {
-        self.sizes.as_grid()
+        self.grid
     }
 
     fn marked(&self, place: (u32, u32, u32)) -> bool {
-        let grid = self.grid();
-        if !grid.sizes.contains(place) {
+        if !self.grid.sizes.contains(place) {
             return false;
         }
-        let i = grid.number(place) as usize;
-        i < self.bytes.len() && self.bytes[i] >= self.threshold
+        let i = self.grid.number(place) as usize;
+        self.bytes[i] >= self.threshold
     }
 }
