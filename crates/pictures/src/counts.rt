@@ -9,13 +9,9 @@ pub fn count_marked<P: Picture>(picture: &P) -> u32
     ensures { result ≡ count_marks (P.extent picture.now) (P.marks picture.now) }
 {
     let grid = picture.grid();
-    let mut count = 0;
-    for k in 0..grid.count() {
-        if picture.marked(grid.place(k)) {
-            count += 1;
-        }
-    }
-    count
+    (0..grid.count())
+        .filter(|k| picture.marked(grid.place(*k)))
+        .count() as u32
 }
 
 /// Whether a picture has a marked cell.
@@ -23,12 +19,7 @@ pub fn has_mark<P: Picture>(picture: &P) -> bool
     ensures { Decides result (SomeMarked (P.extent picture.now) (P.marks picture.now)) }
 {
     let grid = picture.grid();
-    for k in 0..grid.count() {
-        if picture.marked(grid.place(k)) {
-            return true;
-        }
-    }
-    false
+    (0..grid.count()).any(|k| picture.marked(grid.place(k)))
 }
 
 /// Whether a picture has a marked cell and an unmarked one.

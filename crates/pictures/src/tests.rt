@@ -10,12 +10,9 @@ fn cube(n: u32) -> Sizes {
     }
 }
 
-/// The half-grid of the half-grid of the half-grid of a grey picture: the number of the refusal on the way, or 0.
-fn halved_thrice(sizes: Sizes, bytes: &[u8]) -> u8 {
-    match halve_thrice(sizes, bytes) {
-        Ok(()) => 0,
-        Err(refusal) => refusal.number(),
-    }
+/// The half-grid of the half-grid of the half-grid of a grey picture: how that is answered, a refusal by its number.
+fn halved_thrice(sizes: Sizes, bytes: &[u8]) -> Result<(), u8> {
+    halve_thrice(sizes, bytes).map_err(Refusal::number)
 }
 
 fn halve_thrice(sizes: Sizes, bytes: &[u8]) -> Result<(), Refusal> {
@@ -55,11 +52,11 @@ fn refusals(rt: HostRuntime) {
         ny: 1,
         nz: 1,
     };
-    assert_eq!(rt; halved_thrice(cube(0), &bytes), 1);
-    assert_eq!(rt; halved_thrice(cube(1023), &bytes), 2);
-    assert_eq!(rt; halved_thrice(cube(32), &bytes), 12);
-    assert_eq!(rt; halved_thrice(row, &bytes[0..513]), 13);
+    assert_eq!(rt; halved_thrice(cube(0), &bytes), Err(1));
+    assert_eq!(rt; halved_thrice(cube(1023), &bytes), Err(2));
+    assert_eq!(rt; halved_thrice(cube(32), &bytes), Err(12));
+    assert_eq!(rt; halved_thrice(row, &bytes[0..513]), Err(13));
     // 33, 65, 129 and then 257 places on each axis
-    assert_eq!(rt; halved_thrice(cube(33), &bytes), 2);
-    assert_eq!(rt; halved_thrice(cube(32), &bytes[0..32_768]), 0);
+    assert_eq!(rt; halved_thrice(cube(33), &bytes), Err(2));
+    assert_eq!(rt; halved_thrice(cube(32), &bytes[0..32_768]), Ok(()));
 }

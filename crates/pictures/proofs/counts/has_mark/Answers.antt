@@ -1,16 +1,15 @@
-use Rattle.std.proofs.Common.{sym, ap, ◌∙◌, below_more, arith}
-use Rattle.pictures.proofs.Finding.{found, none_found}
+use Rattle.std.proofs.Common.{◌≡◌, true, false, refl, rules}
+use Rattle.std.proofs.Math.Nat.{sub-zero}
+use Rattle.std.proofs.lemmas.Iterator.{YieldsList-from_range, cases_from_any}
+use Rattle.pictures.specs.Numbered.{marks_by_number}
+use Rattle.pictures.proofs.Finding.{looked_for}
 use Rattle.pictures.proofs.counts.has_mark.Goals as goal
-
-pub returns-then-marked : goal.returns-then-marked
-returns-then-marked g c =
-    let p = c.args.picture.now in
-    found (g.P.Picture.extent p) (g.P.Picture.lawful.grid p) (g.P.Picture.marks p) c.grid-grid.result.sizes c.grid-grid.ensures c.loop-k.k c.place.result (omega (arith, c.count-k-end.ensures.value)) c.place.ensures c.if-marked.ensures
-
-pub loop-k-preserved : goal.loop-k-preserved
-loop-k-preserved g c = below_more _ _ c.loop-k.invariant (ap (g.P.Picture.marks c.args.picture.now) (sym c.place.ensures) ∙ sym c.if-marked.ensures)
 
 pub returns : goal.returns
 returns g c =
     let p = c.args.picture.now in
-    none_found (g.P.Picture.extent p) (g.P.Picture.lawful.grid p) (g.P.Picture.marks p) c.grid-grid.result.sizes c.grid-grid.ensures c.loop-k.k (omega (arith, c.count-k-end.ensures.value)) c.loop-k.invariant
+    let s = c.grid-grid.result.sizes in
+    let n = c.count.result in
+    let marks = g.P.Picture.marks p in
+    looked_for (g.P.Picture.extent p) (g.P.Picture.lawful.grid p) marks s c.grid-grid.ensures n c.count.ensures.value c.any.result
+    (cases_from_any _ _ c.any.result (λ k. marks_by_number s marks k ≡ true) (λ k. marks_by_number s marks k ≡ false) c.any.ensures.ran (YieldsList-from_range 0 n n refl (sub-zero n)) (λ x q k. search rules) (λ x q k. search rules))
