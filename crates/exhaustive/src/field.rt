@@ -19,12 +19,11 @@ pub fn search_field<R: Rule, P: Picture>(
     ensures { Searched result (R.near rule.now) (P.extent picture.now) (marks_by_number (P.extent picture.now) (P.marks picture.now)) cells.old cells.new }
 {
     let sizes = picture.sizes();
-    let count = sizes.nx * sizes.ny * sizes.nz;
-    if cells.len() != count as usize {
+    if cells.len() != (sizes.nx * sizes.ny * sizes.nz) as usize {
         return Err(Refusal::CellCount);
     }
-    for at in 0..count {
-        cells[at as usize] = finished_cell(rule, picture, sizes, at);
+    for (at, cell) in cells.iter_mut().enumerate() {
+        *cell = finished_cell(rule, picture, sizes, at as u32);
     }
     Ok(())
 }
