@@ -33,8 +33,8 @@ pub(crate) fn write_numbers<P: Picture>(
 {
     let sizes = picture.sizes();
     let mut place = (0, 0, 0);
-    for k in 0..sizes.nx * sizes.ny * sizes.nz {
-        output[k as usize] = number_at(picture, half, cells, place);
+    for number in output.iter_mut() {
+        *number = number_at(picture, half, cells, place);
         place = sizes.next_in(place);
     }
 }

@@ -13,8 +13,12 @@ use Rattle.signed.proofs.numbers.write_numbers.Goals as goal
 grid_told : (s extent : Sizes) → s ≡ extent → IsGrid extent → IsGrid s
 grid_told s extent e = subst IsGrid (sym e)
 
-pub loop-k-init : goal.loop-k-init
-loop-k-init g c =
+-- the turns of the loop are the numbers of cells
+is_cell : (s extent : Sizes) (k n : ℕ) → k < n → n ≡ cell_count extent → s ≡ extent → k < cell_count s
+is_cell s extent k n lt room same = omega (arith, ap cell_count same)
+
+pub loop-number-init : goal.loop-number-init
+loop-number-init g c =
     let p = c.args.picture.now in
     (λ k h. absurd (omega arith), sym (first_place c.sizes-sizes.result (grid_told _ _ c.sizes-sizes.ensures (g.P.Picture.lawful.grid p))))
 
@@ -24,8 +28,8 @@ number_at-requires g c =
     let s = c.sizes-sizes.result in
     record {
       field = c.requires.field;
-      place = subst (λ n. inside n c.loop-k.place ≡ true) c.sizes-sizes.ensures
-          (placed_inside s (grid_told s _ c.sizes-sizes.ensures (g.P.Picture.lawful.grid p)) c.loop-k.k c.loop-k.place c.loop-k.invariant.1 c.loop-k-test.true);
+      place = subst (λ n. inside n c.loop-number.place ≡ true) c.sizes-sizes.ensures
+          (placed_inside s (grid_told s _ c.sizes-sizes.ensures (g.P.Picture.lawful.grid p)) c.loop-number.number-index c.loop-number.place c.loop-number.invariant.1 (is_cell s _ _ _ c.loop-number-test.true c.requires.room c.sizes-sizes.ensures));
     }
 
 pub next_in-place-requires : goal.next_in-place-requires
@@ -33,30 +37,30 @@ next_in-place-requires g c =
     let p = c.args.picture.now in
     let s = c.sizes-sizes.result in
     let grid = grid_told s _ c.sizes-sizes.ensures (g.P.Picture.lawful.grid p) in
-    record { grid = grid; within = placed_inside s grid c.loop-k.k c.loop-k.place c.loop-k.invariant.1 c.loop-k-test.true }
+    record { grid = grid; within = placed_inside s grid c.loop-number.number-index c.loop-number.place c.loop-number.invariant.1 (is_cell s _ _ _ c.loop-number-test.true c.requires.room c.sizes-sizes.ensures) }
 
-pub loop-k-preserved : goal.loop-k-preserved
-loop-k-preserved g c =
+pub loop-number-preserved : goal.loop-number-preserved
+loop-number-preserved g c =
     let p = c.args.picture.now in
     let s = c.sizes-sizes.result in
     let grid = grid_told s _ c.sizes-sizes.ensures (g.P.Picture.lawful.grid p) in
     let fits : SFits w64 c.number_at.result = search rules in
-    let lt : c.loop-k.k < length c.loop-k.output = omega (arith, c.requires.room, ap cell_count c.sizes-sizes.ensures) in (
+    let lt : c.loop-number.number-index < length c.loop-number.output = omega (arith, c.requires.room, ap cell_count c.sizes-sizes.ensures) in (
       below_more _ _
-          (λ k h. let ne : k ≢ c.loop-k.k = omega arith in rw get_or-set_other (c.loop-k.invariant.0 k h))
+          (λ k h. let ne : k ≢ c.loop-number.number-index = omega arith in rw get_or-set_other (c.loop-number.invariant.0 k h))
           (rw get_or-set_same (to_z-of_z w64 c.number_at.result fits
-          ∙ number_read s (g.P.Picture.extent p) c.sizes-sizes.ensures c.loop-k.place c.loop-k.k c.loop-k.invariant.1
+          ∙ number_read s (g.P.Picture.extent p) c.sizes-sizes.ensures c.loop-number.place c.loop-number.number-index c.loop-number.invariant.1
           (g.P.Picture.marks p) c.args.cells.now c.args.half c.requires.field.sizes c.number_at.result c.number_at.ensures)),
-      next_placed s grid c.loop-k.k c.loop-k.place c.loop-k.invariant.1 _ c.next_in-place.ensures,
+      next_placed s grid c.loop-number.number-index c.loop-number.place c.loop-number.invariant.1 _ c.next_in-place.ensures,
     )
 
 pub returns : goal.returns
 returns g c =
-    let output = c.loop-k.output in
+    let output = c.loop-number.output in
     let cells = c.args.cells.now in
     let marks = g.P.Picture.marks c.args.picture.now in
     record {
-      one_each = c.loop-k.auto.output ∙ c.requires.room;
+      one_each = c.loop-number.auto.output ∙ c.requires.room;
       each = subst (λ (n : Sizes). (k : ℕ) → k < cell_count n → number_at output k ≡ with_sign (marks (place_of n k)) (cell_at cells (doubled_number n k)).value)
-          c.sizes-sizes.ensures (λ k h. c.loop-k.invariant.0 k (omega (arith, c.loop-k-test.false)));
+          c.sizes-sizes.ensures (λ k h. c.loop-number.invariant.0 k (omega (arith, c.loop-number-test.false, c.requires.room, ap cell_count c.sizes-sizes.ensures)));
     }
