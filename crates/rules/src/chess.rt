@@ -7,6 +7,7 @@ ghost use Rattle.rules.specs.Chesses.{chess_crosses};
 ghost use Rattle.rules.specs.Ceilings.{chess_bounded, chess_ceilings};
 ghost use Rattle.std.proofs.Common.{rules};
 
+use crate::point::Point;
 use crate::quotient::rounded_up;
 use crate::rule::Rule;
 use crate::spacings::Spacings;
@@ -28,14 +29,16 @@ impl Chess {
     }
 }
 
-/// The lowest place at which a point at `j` that carries `h` is no farther than one at `i` that carries `g`, or 1,023.
-fn chess_crossing(s: u32, i: u32, g: u64, j: u32, h: u64) -> u32
+/// The lowest place at which the later of two points is no farther than the earlier, or 1,023.
+fn chess_crossing(s: u32, earlier: Point, later: Point) -> u32
     requires allowed { IsSpacing s }
-    requires places { (i < j) × (j < 1023) }
-    requires carried { h ≤ 2 ^ 62 }
-    ensures { Crosses (λ t. chess s i t g) (λ t. chess s j t h) result }
+    requires places { (earlier.place < later.place) × (later.place < 1023) }
+    requires carried { later.carried ≤ 2 ^ 62 }
+    ensures { Crosses (λ t. chess s earlier.place t earlier.carried) (λ t. chess s later.place t later.carried) result }
 {
-    let (s, i, j) = (s as u64, i as u64, j as u64);
+    let s = s as u64;
+    let (i, g) = (earlier.place as u64, earlier.carried);
+    let (j, h) = (later.place as u64, later.carried);
     // From `reach` on the later point's gap is covered, by the earlier point's gap or by what that carries.
     let reach = rounded_up(i + j, 2).min(j.saturating_sub(g / s));
     if h <= g {
@@ -73,12 +76,12 @@ impl Rule for Chess {
         }
     }
 
-    fn near_in(&self, axis: u8, from: u32, at: u32, carried: u64) -> u64 {
-        let gap = self.spacings.gap(axis, from, at);
-        carried.max(gap)
+    fn near_in(&self, axis: u8, point: Point, at: u32) -> u64 {
+        let gap = self.spacings.gap(axis, point.place, at);
+        point.carried.max(gap)
     }
 
-    fn crossing_in(&self, axis: u8, earlier: u32, g: u64, later: u32, h: u64) -> u32 {
-        chess_crossing(self.spacings.on(axis), earlier, g, later, h)
+    fn crossing_in(&self, axis: u8, earlier: Point, later: Point) -> u32 {
+        chess_crossing(self.spacings.on(axis), earlier, later)
     }
 }

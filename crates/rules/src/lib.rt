@@ -7,6 +7,7 @@
 mod block;
 mod chess;
 mod halving;
+mod point;
 mod quotient;
 mod rule;
 mod spacings;
@@ -16,6 +17,7 @@ mod theorems;
 pub use block::Block;
 pub use chess::Chess;
 pub use halving::crossing_by_halving;
+pub use point::Point;
 pub use rule::Rule;
 pub use spacings::{MAX_SPACING, Spacings};
 pub use square::Square;

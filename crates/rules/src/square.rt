@@ -7,6 +7,7 @@ ghost use Rattle.rules.specs.Squares.{square_crosses};
 ghost use Rattle.rules.specs.Ceilings.{square_bounded, square_ceilings};
 ghost use Rattle.std.proofs.Common.{rules};
 
+use crate::point::Point;
 use crate::quotient::rounded_up;
 use crate::rule::Rule;
 use crate::spacings::Spacings;
@@ -37,14 +38,15 @@ impl Square {
     }
 }
 
-/// The lowest place at which a point at `j` that carries `h` is no farther than one at `i` that carries `g`, or 1,023.
-fn square_crossing(s: u32, i: u32, g: u64, j: u32, h: u64) -> u32
+/// The lowest place at which the later of two points is no farther than the earlier, or 1,023.
+fn square_crossing(s: u32, earlier: Point, later: Point) -> u32
     requires allowed { IsSpacing s }
-    requires places { (i < j) × (j < 1023) }
-    requires carried { h ≤ 2 ^ 62 }
-    ensures { Crosses (λ t. square s i t g) (λ t. square s j t h) result }
+    requires places { (earlier.place < later.place) × (later.place < 1023) }
+    requires carried { later.carried ≤ 2 ^ 62 }
+    ensures { Crosses (λ t. square s earlier.place t earlier.carried) (λ t. square s later.place t later.carried) result }
 {
-    let (i, j) = (i as u64, j as u64);
+    let (i, g) = (earlier.place as u64, earlier.carried);
+    let (j, h) = (later.place as u64, later.carried);
     let unit = s as u64 * s as u64;
     // At place 0 the later point lacks `needed - g`, and it gains `2 * unit * (j - i)` with each place.
     let needed = unit * (j * j - i * i) + h;
@@ -77,12 +79,12 @@ impl Rule for Square {
         }
     }
 
-    fn near_in(&self, axis: u8, from: u32, at: u32, carried: u64) -> u64 {
-        let gap = self.spacings.gap(axis, from, at);
-        carried + gap * gap
+    fn near_in(&self, axis: u8, point: Point, at: u32) -> u64 {
+        let gap = self.spacings.gap(axis, point.place, at);
+        point.carried + gap * gap
     }
 
-    fn crossing_in(&self, axis: u8, earlier: u32, g: u64, later: u32, h: u64) -> u32 {
-        square_crossing(self.spacings.on(axis), earlier, g, later, h)
+    fn crossing_in(&self, axis: u8, earlier: Point, later: Point) -> u32 {
+        square_crossing(self.spacings.on(axis), earlier, later)
     }
 }
