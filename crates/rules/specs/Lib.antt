@@ -2,6 +2,7 @@ pub mod Ranges
 pub mod Laws
 pub mod Doors
 pub mod Formulas
+pub mod Names
 pub mod Pinned
 pub mod Examples
 pub mod Blocks

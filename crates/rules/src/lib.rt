@@ -7,6 +7,7 @@
 mod block;
 mod chess;
 mod halving;
+mod name;
 mod point;
 mod quotient;
 mod rule;
@@ -17,6 +18,7 @@ mod theorems;
 pub use block::Block;
 pub use chess::Chess;
 pub use halving::crossing_by_halving;
+pub use name::{RuleName, UnknownRule};
 pub use point::Point;
 pub use rule::Rule;
 pub use spacings::{MAX_SPACING, Spacings};
