@@ -3,6 +3,7 @@ pub mod Laws
 pub mod Doors
 pub mod Formulas
 pub mod Names
+pub mod Named
 pub mod Pinned
 pub mod Examples
 pub mod Blocks

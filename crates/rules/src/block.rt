@@ -1,4 +1,4 @@
-ghost use Rattle.std.specs.Prelude.{◌^◌, ◌<◌, ◌≤◌};
+ghost use Rattle.std.specs.Prelude.{◌≡◌, ◌^◌, ◌<◌, ◌≤◌};
 ghost use Rattle.grid.specs.Doors.{Admits};
 ghost use Rattle.rules.specs.Ranges.{IsSpacing, Crosses};
 ghost use Rattle.rules.specs.Doors.{spacing_door};
@@ -24,8 +24,16 @@ impl Block {
     pub fn new(sx: u32, sy: u32, sz: u32) -> Result<Block, Refusal>
         ensures { Admits result (spacing_door sx sy sz) (λ b. HasSpacings b.spacings sx sy sz) }
     {
-        let spacings = Spacings::new(sx, sy, sz)?;
-        Ok(Block { spacings })
+        Ok(Block::from(Spacings::new(sx, sy, sz)?))
+    }
+}
+
+/// The rule over these spacings.
+impl From<Spacings> for Block {
+    ghost from_gives = { λ s b. b.spacings ≡ s };
+
+    fn from(spacings: Spacings) -> Block {
+        Block { spacings }
     }
 }
 

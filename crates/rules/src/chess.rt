@@ -1,4 +1,4 @@
-ghost use Rattle.std.specs.Prelude.{◌^◌, ◌<◌, ◌≤◌};
+ghost use Rattle.std.specs.Prelude.{◌≡◌, ◌^◌, ◌<◌, ◌≤◌};
 ghost use Rattle.grid.specs.Doors.{Admits};
 ghost use Rattle.rules.specs.Ranges.{IsSpacing, Crosses};
 ghost use Rattle.rules.specs.Doors.{spacing_door};
@@ -24,8 +24,16 @@ impl Chess {
     pub fn new(sx: u32, sy: u32, sz: u32) -> Result<Chess, Refusal>
         ensures { Admits result (spacing_door sx sy sz) (λ c. HasSpacings c.spacings sx sy sz) }
     {
-        let spacings = Spacings::new(sx, sy, sz)?;
-        Ok(Chess { spacings })
+        Ok(Chess::from(Spacings::new(sx, sy, sz)?))
+    }
+}
+
+/// The rule over these spacings.
+impl From<Spacings> for Chess {
+    ghost from_gives = { λ s c. c.spacings ≡ s };
+
+    fn from(spacings: Spacings) -> Chess {
+        Chess { spacings }
     }
 }
 

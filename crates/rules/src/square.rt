@@ -24,8 +24,7 @@ impl Square {
     pub fn new(sx: u32, sy: u32, sz: u32) -> Result<Square, Refusal>
         ensures { Admits result (spacing_door sx sy sz) (λ q. HasSpacings q.spacings sx sy sz) }
     {
-        let spacings = Spacings::new(sx, sy, sz)?;
-        Ok(Square { spacings })
+        Ok(Square::from(Spacings::new(sx, sy, sz)?))
     }
 
     /// The square of the widest gap on the axis.
@@ -35,6 +34,15 @@ impl Square {
     {
         let widest = self.spacings.widest(axis);
         widest * widest
+    }
+}
+
+/// The rule over these spacings.
+impl From<Spacings> for Square {
+    ghost from_gives = { λ s q. q.spacings ≡ s };
+
+    fn from(spacings: Spacings) -> Square {
+        Square { spacings }
     }
 }
 
