@@ -73,10 +73,11 @@ impl Rule for Block {
     ghost ceilings = { λ r. block_ceilings r.spacings };
 
     fn ceiling(&self, axis: u8) -> Option<u64> {
+        let (x, y, z) = self.spacings.widest();
         match axis {
-            1 => Some(self.spacings.widest(1)),
-            2 => Some(self.spacings.widest(1) + self.spacings.widest(2)),
-            3 => Some(self.spacings.widest(1) + self.spacings.widest(2) + self.spacings.widest(3)),
+            1 => Some(x),
+            2 => Some(x + y),
+            3 => Some(x + y + z),
             _ => None,
         }
     }

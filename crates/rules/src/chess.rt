@@ -71,15 +71,11 @@ impl Rule for Chess {
     ghost ceilings = { λ r. chess_ceilings r.spacings };
 
     fn ceiling(&self, axis: u8) -> Option<u64> {
+        let (x, y, z) = self.spacings.widest();
         match axis {
-            1 => Some(self.spacings.widest(1)),
-            2 => Some(self.spacings.widest(1).max(self.spacings.widest(2))),
-            3 => Some(
-                self.spacings
-                    .widest(1)
-                    .max(self.spacings.widest(2))
-                    .max(self.spacings.widest(3)),
-            ),
+            1 => Some(x),
+            2 => Some(x.max(y)),
+            3 => Some(x.max(y).max(z)),
             _ => None,
         }
     }

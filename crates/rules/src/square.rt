@@ -26,15 +26,6 @@ impl Square {
     {
         Ok(Square::from(Spacings::new(sx, sy, sz)?))
     }
-
-    /// The square of the widest gap on the axis.
-    fn widest_squared(&self, axis: u8) -> u64
-        ensures value { result ≡ widest self.now.spacings axis * widest self.now.spacings axis }
-        ensures small { result ≤ 104448400000000 }
-    {
-        let widest = self.spacings.widest(axis);
-        widest * widest
-    }
 }
 
 /// The rule over these spacings.
@@ -79,10 +70,11 @@ impl Rule for Square {
     ghost ceilings = { λ r. square_ceilings r.spacings };
 
     fn ceiling(&self, axis: u8) -> Option<u64> {
+        let (x, y, z) = self.spacings.widest();
         match axis {
-            1 => Some(self.widest_squared(1)),
-            2 => Some(self.widest_squared(1) + self.widest_squared(2)),
-            3 => Some(self.widest_squared(1) + self.widest_squared(2) + self.widest_squared(3)),
+            1 => Some(x * x),
+            2 => Some(x * x + y * y),
+            3 => Some(x * x + y * y + z * z),
             _ => None,
         }
     }

@@ -4,7 +4,7 @@ ghost use Rattle.rules.specs.Doors.{is_spacing, spacing_door};
 ghost use Rattle.rules.specs.Formulas.{spacing, gap, widest, HasSpacings};
 
 use crate::spacings::{MAX_SPACING, Spacings};
-use grid::Refusal;
+use grid::{MAX_SIZE, Refusal};
 
 impl Spacings {
     /// The spacings of the axes x, y and z, each from 1 to 10,000; refused with `SpacingRange` otherwise.
@@ -38,12 +38,19 @@ impl Spacings {
         self.on(axis) as u64 * from.abs_diff(at) as u64
     }
 
-    /// The widest gap on the axis.
-    pub(crate) fn widest(&self, axis: u8) -> u64
-        ensures value { result ≡ widest self.now axis }
-        ensures small { result ≤ 10220000 }
+    /// The widest gaps on the axes x, y and z.
+    pub(crate) fn widest(&self) -> (u64, u64, u64)
+        ensures x { (result.0 ≡ widest self.now 1) × (result.0 ≤ 10220000) }
+        ensures y { (result.1 ≡ widest self.now 2) × (result.1 ≤ 10220000) }
+        ensures z { (result.2 ≡ widest self.now 3) × (result.2 ≤ 10220000) }
     {
-        1022 * self.on(axis) as u64
+        let Spacings { sx, sy, sz } = *self;
+        let furthest = MAX_SIZE as u64 - 1;
+        (
+            furthest * sx as u64,
+            furthest * sy as u64,
+            furthest * sz as u64,
+        )
     }
 }
 
