@@ -1,7 +1,7 @@
 -- One turn of the loop that reads a number.
-use Rattle.std.proofs.Common.{◌≡◌, ℕ, ◌+◌, ◌-◌, ◌*◌, ◌<◌, ◌≤◌, ◌⊎◌, List, [], ◌∷◌, ◌++◌, length, get_or, take, drop, sym, ap, ◌∙◌, ⊎_elim, arith}
-use Rattle.std.proofs.lemmas.List.{drop_more, drop_all, take_rest, append_assoc}
-use Rattle.numerals.specs.Numerals.{numeral, Reads, Unread, ending_byte}
+use Rattle.std.proofs.Common.{◌≡◌, ℕ, ◌+◌, ◌-◌, ◌*◌, ◌<◌, ◌≤◌, ◌⊎◌, List, [], ◌∷◌, ◌++◌, length, get_or, drop, sym, ap, ◌∙◌, ⊎_elim, arith}
+use Rattle.std.proofs.lemmas.List.{drop_more, drop_all, append_assoc}
+use Rattle.numerals.specs.Numerals.{numeral, Unread, ending_byte}
 use Rattle.numerals.specs.declared.numbers.Ending.{Ending}
 use Rattle.numerals.specs.declared.numbers.Ending.TheVariants.{Space, LineFeed}
 use Rattle.numerals.proofs.Digits.{numeral_more}
@@ -19,16 +19,6 @@ module _ (text : List ℕ) (i v most : ℕ) (ending : Ending) (so_far : text ≡
   module _ (within : i < length text) where
     here : drop i text ≡ get_or text i 0 ∷ drop (i + 1) text
     here = drop_more text i 0 within
-
-    pub reads_here : get_or text i 0 ≡ ending_byte ending → 0 < v → v ≤ most → Reads text (ending_byte ending) most v (take (length text - (i + 1)) (drop (i + 1) text))
-    reads_here is some fits = record {
-      range = (some, fits);
-      whole =
-          so_far
-          ∙ ap (λ xs. numeral v ++ xs) here
-          ∙ ap (λ x. numeral v ++ x ∷ drop (i + 1) text) is
-          ∙ ap (λ xs. numeral v ++ ending_byte ending ∷ xs) (sym (take_rest text (i + 1)));
-    }
 
     pub unread_here : (end : ℕ) → end ≡ ending_byte ending → (get_or text i 0 < 48) ⊎ (57 < get_or text i 0) → ((get_or text i 0 ≡ end) × (v ≤ 0)) ⊎ (get_or text i 0 ≡ end → ⊥) → Unread text (ending_byte ending) most
     unread_here end same other no_end =

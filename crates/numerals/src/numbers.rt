@@ -1,4 +1,4 @@
-ghost use Rattle.std.specs.Prelude.{◌≡◌, ◌<◌, ◌≤◌, ◌⊎◌, MatchBool, MatchOption};
+ghost use Rattle.std.specs.Prelude.{◌≡◌, MatchOption};
 ghost use Rattle.numerals.specs.Numerals.{Reads, Unread, ending_byte};
 ghost use Rattle.numerals.specs.Prefixes.{Follows, NotPrefix};
 
@@ -21,19 +21,13 @@ impl Ending {
     }
 }
 
-/// Whether the number is from 1 to `most`.
-fn in_range(number: u32, most: u16) -> bool
-    ensures { MatchBool result ((1 ≤ number) × (number ≤ most)) ((number < 1) ⊎ (most < number)) }
-{
-    1 <= number && number <= most as u32
-}
-
 /// Reads a number from 1 to `most`, written in decimal digits with no zero in front and closed by the ending.
 ///
 /// Answers the number and what comes after its ending; none where the text does not begin so.
 pub fn read_number(text: &[u8], most: u16, ending: Ending) -> Option<(u32, &[u8])>
     ensures { MatchOption result (Unread text.now (ending_byte ending) most) (λ p. Reads text.now (ending_byte ending) most p.0 p.1.now) }
 {
+    // `parse` would take a plus sign and zeros in front, and does not say where the number ends.
     let end = ending.byte();
     let mut number = 0;
     for (i, b) in text.iter().enumerate() {
@@ -44,7 +38,7 @@ pub fn read_number(text: &[u8], most: u16, ending: Ending) -> Option<(u32, &[u8]
             return None;
         }
         number = number * 10 + (*b - b'0') as u32;
-        if !in_range(number, most) {
+        if !(1..=u32::from(most)).contains(&number) {
             return None;
         }
     }
