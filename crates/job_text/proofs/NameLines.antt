@@ -49,21 +49,10 @@ four_from_names text o rest names =
       fourth = refl;
     }
 
-pub names_from_four : (text : List ℕ) (o : Order) (rest : List ℕ) → EachOnce o → FourNames text o rest → Names text o rest
-names_from_four text o rest once four =
-    let e1 = four.first in
-    let e2 = four.second in
-    let e3 = four.third in
-    let e4 = four.fourth in
-    record { each_once = once; whole = e1 ∙ rw e2 (rw e3 (rw e4 (simp append_assoc))) }
-
 -- A line of names that the text has is the one that was read, name by name.
 module _ (text : List ℕ) (o : Order) (rest : List ℕ) (names : Names text o rest) where
   four : FourNames text o rest
   four = four_from_names text o rest names
-
-  pub no_first_name : ((n : Column) → NoWord text (column_name n) 32) → ⊥
-  no_first_name none = none o.first four.second_on four.first
 
   module _ (a : Column) (on₂ : List ℕ) (first : ReadsWord text (column_name a) 32 on₂) where
     same_first : Same a o.first on₂ four.second_on
@@ -72,18 +61,12 @@ module _ (text : List ℕ) (o : Order) (rest : List ℕ) (names : Names text o r
     from_second : ReadsWord on₂ (column_name o.second) 32 four.third_on
     from_second = same_first.1 ∙ four.second
 
-    pub no_second_name : ((n : Column) → NoWord on₂ (column_name n) 32) → ⊥
-    no_second_name none = none o.second four.third_on from_second
-
     module _ (b : Column) (on₃ : List ℕ) (second : ReadsWord on₂ (column_name b) 32 on₃) where
       same_second : Same b o.second on₃ four.third_on
       same_second = name_same b o.second 32 on₃ four.third_on (sym second ∙ from_second)
 
       from_third : ReadsWord on₃ (column_name o.third) 32 four.fourth_on
       from_third = same_second.1 ∙ four.third
-
-      pub no_third_name : ((n : Column) → NoWord on₃ (column_name n) 32) → ⊥
-      no_third_name none = none o.third four.fourth_on from_third
 
       module _ (c : Column) (on₄ : List ℕ) (third : ReadsWord on₃ (column_name c) 32 on₄) where
         same_third : Same c o.third on₄ four.fourth_on

@@ -99,9 +99,6 @@ module _ (text : List ℕ) (o : Order) (s : Settings) (rest : List ℕ) (values 
   four : FourValues text o s rest
   four = four_from_values text o s rest values
 
-  pub no_first_value : NoSetting text o.first 32 → ⊥
-  no_first_value none = none s (values.each_fits o.first) four.second_on four.first
-
   module _ (s₁ : Settings) (on₂ : List ℕ) (first : ReadsWord text (value_text s₁ o.first) 32 on₂) where
     from_second : ReadsWord on₂ (value_text s o.second) 32 four.third_on
     from_second = value_same o.first s₁ s 32 (omega arith) on₂ four.second_on (sym first ∙ four.first) ∙ four.second

@@ -33,11 +33,8 @@ pub fn read_job(input: &[u8]) -> Result<Job<'_>, JobFault>
     if input.len() > MOST_BYTES {
         return Err(JobFault::TooLong);
     }
-    let Some((order, values)) = read_names(input) else {
-        return Err(JobFault::Names);
-    };
-    let Some((settings, stack)) = read_values(values, order) else {
-        return Err(JobFault::Values(input.len() - values.len()));
-    };
+    let (order, values) = read_names(input).ok_or(JobFault::Names)?;
+    let start = input.len() - values.len();
+    let (settings, stack) = read_values(values, order).ok_or(JobFault::Values(start))?;
     Ok(Job { settings, stack })
 }

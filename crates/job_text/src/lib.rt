@@ -3,6 +3,7 @@
 
 mod columns;
 mod job;
+mod names;
 mod settings;
 
 pub use columns::{Column, Order};

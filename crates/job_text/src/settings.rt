@@ -1,9 +1,10 @@
 // The second line of a job text: the values of the columns.
 ghost use Rattle.std.specs.Prelude.{◌≡◌, ℕ, List, MatchOption};
-ghost use Rattle.numerals.specs.Numerals.{ending_byte};
+ghost use Rattle.numerals.specs.Numerals.{Reads, Unread, ending_byte};
 ghost use Rattle.job_text.specs.Jobs.{EachOnce, rule_name, NoWord, ReadsWord, ReadsSetting, NoSetting, Values};
 
-use crate::columns::{Column, Order, read_word};
+use crate::columns::{Column, Order};
+use crate::names::{Named, read_name};
 use numerals::{Ending, read_number};
 
 /// A distance rule by its name.
@@ -23,20 +24,31 @@ pub struct Settings {
     pub sz: u32,
 }
 
+impl Named for RuleName {
+    ghost word_of = { rule_name };
+
+    fn word(self) -> &'static [u8] {
+        match self {
+            RuleName::Square => b"square",
+            RuleName::Block => b"block",
+            RuleName::Chess => b"chess",
+        }
+    }
+}
+
 /// The rule whose name the text begins with, and what comes after the name's ending.
 fn read_rule(text: &[u8], ending: Ending) -> Option<(RuleName, &[u8])>
     ensures { MatchOption result ((n : RuleName) → NoWord text.now (rule_name n) (ending_byte ending)) (λ p. ReadsWord text.now (rule_name p.0) (ending_byte ending) p.1.now) }
 {
-    if let Some(rest) = read_word(text, b"square", ending) {
-        return Some((RuleName::Square, rest));
-    }
-    if let Some(rest) = read_word(text, b"block", ending) {
-        return Some((RuleName::Block, rest));
-    }
-    if let Some(rest) = read_word(text, b"chess", ending) {
-        return Some((RuleName::Chess, rest));
-    }
-    None
+    let rules = [RuleName::Square, RuleName::Block, RuleName::Chess];
+    read_name(text, &rules, ending)
+}
+
+/// The spacing that the text begins with, and what comes after its ending.
+fn read_spacing(text: &[u8], ending: Ending) -> Option<(u32, &[u8])>
+    ensures { MatchOption result (Unread text.now (ending_byte ending) 10000) (λ p. Reads text.now (ending_byte ending) 10000 p.0 p.1.now) }
+{
+    read_number(text, 10_000, ending)
 }
 
 /// Reads the value of one column into the settings; the others stay as they are.
@@ -49,16 +61,12 @@ fn read_setting(
     ensures { MatchOption result (NoSetting text.now column (ending_byte ending)) (λ p. ReadsSetting before column text.now (ending_byte ending) p.0 p.1.now) }
 {
     let mut after = before;
-    if column == Column::Rule {
-        let (rule, rest) = read_rule(text, ending)?;
-        after.rule = rule;
-        return Some((after, rest));
-    }
-    let (spacing, rest) = read_number(text, 10_000, ending)?;
+    let rest;
     match column {
-        Column::Sx => after.sx = spacing,
-        Column::Sy => after.sy = spacing,
-        _ => after.sz = spacing,
+        Column::Rule => (after.rule, rest) = read_rule(text, ending)?,
+        Column::Sx => (after.sx, rest) = read_spacing(text, ending)?,
+        Column::Sy => (after.sy, rest) = read_spacing(text, ending)?,
+        Column::Sz => (after.sz, rest) = read_spacing(text, ending)?,
     }
     Some((after, rest))
 }

@@ -1,18 +1,6 @@
 use Rattle.std.proofs.Common.{◌≡◌, ℕ, true, false, arith}
-use Rattle.job_text.proofs.NameLines.{no_first_name, no_second_name, no_third_name, no_fourth_name, read_once}
+use Rattle.job_text.proofs.NameLines.{no_fourth_name, read_once}
 use Rattle.job_text.proofs.columns.read_names.Goals as goal
-
-pub returns-in_err-first : goal.returns-in_err-first
-returns-in_err-first c = rw c.from_residual.ensures (λ o rest names. no_first_name _ o rest names c.in_err-first.ensures)
-
-pub returns-in_err-second : goal.returns-in_err-second
-returns-in_err-second c =
-    rw c.from_residual-in_err-second.ensures (λ o rest names. no_second_name _ o rest names _ _ c.in_ok-first.ensures c.in_err-second.ensures)
-
-pub returns-in_err-third : goal.returns-in_err-third
-returns-in_err-third c =
-    rw c.from_residual-in_err-third.ensures
-    (λ o rest names. no_third_name _ o rest names _ _ c.in_ok-first.ensures _ _ c.in_ok-second.ensures c.in_err-third.ensures)
 
 pub returns-in_err-fourth : goal.returns-in_err-fourth
 returns-in_err-fourth c =

@@ -1,11 +1,8 @@
 use Rattle.std.proofs.Common.{refl}
 use Rattle.job_text.specs.declared.settings.RuleName.TheVariants.{Square}
 use Rattle.job_text.proofs.Words.{option_weaker}
-use Rattle.job_text.proofs.ValueLines.{no_first_value, no_second_value, no_third_value, no_fourth_value, values_from_readings, blank_fits}
+use Rattle.job_text.proofs.ValueLines.{no_second_value, no_third_value, no_fourth_value, values_from_readings, blank_fits}
 use Rattle.job_text.proofs.settings.read_values.Goals as goal
-
-pub returns-in_err-one : goal.returns-in_err-one
-returns-in_err-one c = rw c.from_residual.ensures (λ s rest values. no_first_value _ _ s rest values c.in_err-one.ensures)
 
 pub returns-in_err-two : goal.returns-in_err-two
 returns-in_err-two c =

@@ -1,5 +1,5 @@
 use Rattle.job_text.proofs.Words.{option_weaker, word_then, no_word_then}
-use Rattle.job_text.proofs.columns.read_word.Goals as goal
+use Rattle.job_text.proofs.names.read_word.Goals as goal
 
 pub returns : goal.returns
 returns c =
