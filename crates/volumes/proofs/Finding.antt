@@ -1,12 +1,9 @@
 -- From a finished field to the field of a whole input.
-use Rattle.std.proofs.Common.{◌≡◌, ℕ, Bool, List, sym, ◌∙◌, subst, inr}
+use Rattle.std.proofs.Common.{◌≡◌, Bool, List, sym, subst, inr}
 use Rattle.grid.specs.declared.cell.Cell.{Cell}
 use Rattle.grid.specs.declared.sizes.Sizes.{Sizes}
 use Rattle.grid.specs.Geometry.{Place}
 use Rattle.pictures.specs.Numbered.{marks_by_number}
-use Rattle.pbm.specs.declared.stack.Stack.{Stack}
-use Rattle.pbm.specs.Marks.{stack_extent, stack_marks}
-use Rattle.pbm.specs.Promises.{Shows}
 use Rattle.rules.specs.declared.spacings.Spacings.{Spacings}
 use Rattle.rules.specs.Formulas.{HasSpacings}
 use Rattle.job_text.specs.declared.settings.RuleName.{RuleName}
@@ -14,7 +11,7 @@ use Rattle.job_text.specs.declared.settings.Settings.{Settings}
 use Rattle.reporting.specs.Reports.{near_of}
 use Rattle.volumes.specs.declared.field.VolumeFault.{VolumeFault}
 use Rattle.volumes.specs.declared.field.VolumeFault.TheVariants as fault
-use Rattle.volumes.specs.Volumes.{FieldFound, NoField, SetField, SpacingsFit, NoSetField, FindsVolume}
+use Rattle.volumes.specs.Volumes.{FieldFound, NoField, SetField, SpacingsFit, NoSetField}
 
 pub named_rule : (settings : Settings) (name : RuleName) → settings.rule ≡ name → (w : Spacings) → HasSpacings w settings.sx settings.sy settings.sz
     → (s : Sizes) (marks : Place → Bool) (cells : List Cell) → FieldFound (near_of name w) s (marks_by_number s marks) cells → SetField settings s marks cells
@@ -26,15 +23,3 @@ pub no_set_field : (settings : Settings) (s : Sizes) (marks : Place → Bool) �
 no_set_field settings s marks fit (fault.Stack f) h = h
 no_set_field settings s marks fit (fault.Refused e) h = inr (fit, h)
 no_set_field settings s marks fit fault.NoMemory h = fit
-
-pub found : (settings : Settings) (input : List ℕ) (stack : Stack) → Shows stack input → (sizes : Sizes) → sizes ≡ stack_extent stack → (cells : List Cell)
-    → SetField settings (stack_extent stack) (stack_marks stack) cells → FindsVolume settings input sizes cells
-found settings input stack shows sizes told cells set =
-    let P : Sizes → Type 0 = λ n. SetField settings n (stack_marks stack) cells in
-    let Q : (Place → Bool) → Type 0 = λ m. SetField settings stack.sizes m cells in
-    let R : Sizes → Type 0 = λ n. FindsVolume settings input n cells in
-    subst R (sym (told ∙ shows.extent))
-    (record {
-      sound = record { form = shows.lies_over.form; grid = shows.lies_over.grid };
-      field = subst Q shows.bits (subst P shows.extent set);
-    })

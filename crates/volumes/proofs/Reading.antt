@@ -6,7 +6,7 @@ use Rattle.std.proofs.lemmas.List.{drop_more, drop_all, append_assoc, append-nil
 use Rattle.numerals.specs.Numerals.{numeral}
 use Rattle.numerals.proofs.Digits.{IsDigit, numeral_none, numeral_more, numeral_digits, same_numeral}
 use Rattle.numerals.proofs.Reading.{unread_at_digit}
-use Rattle.volumes.specs.Words.{WritesSpacing, NoSpacing}
+use Rattle.volumes.specs.Words.{NoSpacing}
 
 -- no digits are the number 0
 pub none_read : (word : List ℕ) → word ≡ numeral 0 ++ word
@@ -17,9 +17,6 @@ module _ (word : List ℕ) (i v : ℕ) (so_far : word ≡ numeral v ++ drop i wo
   module _ (past : length word ≤ i) where
     whole : word ≡ numeral v
     whole = so_far ∙ ap (λ (xs : List ℕ). numeral v ++ xs) (drop_all i word past) ∙ append-nil (numeral v)
-
-    pub is_spacing : 0 < v → v ≤ 10000 → WritesSpacing word v
-    is_spacing some few = ((omega arith, few), whole)
 
     pub no_digit : v ≡ 0 → NoSpacing word
     no_digit none n writes = omega (arith, same_numeral n v (sym writes.1 ∙ whole), writes.0.0)

@@ -26,15 +26,18 @@ point_byte cells p = low_byte (point_number (cell_at cells (p / 4)).point) (p % 
 unfoldable pub file_byte : List Cell → ℕ → ℕ
 file_byte cells p = cond (nat_lt p (8 * length cells)) (value_byte cells p) (point_byte cells (p - 8 * length cells))
 
--- the `width` lowest bytes of a number stand from `at` on, and what was before them is unchanged
-pub record WritesLow (width at v : ℕ) (before after : List ℕ) : Type 0 where
-  pub here : (j : ℕ) → j < width → slice_index after (at + j) ≡ low_byte v j
-  pub below : (i : ℕ) → i < at → slice_index after i ≡ slice_index before i
+-- a chunk with `width` bytes for each of some of n cells, from the cell `from` on: of each byte it is true what
+-- `is_byte` says; or it does not hold a whole number of cells, or the cells end before it does, and then it is as it was
+abbrev pub PutsBy : {X : Type 0} → Result X ChunkFault → ℕ → ℕ → ℕ → (ℕ → ℕ → Type 0) → List ℕ → List ℕ → Type 0
+PutsBy (Ok x) width n from is_byte before after =
+    (length before % width ≡ 0) × (from + length before / width ≤ n) × (length after ≡ length before) × ((i : ℕ) → i < length before → is_byte i (slice_index after i))
+PutsBy (Err Uneven) width n from is_byte before after = (length before % width ≢ 0) × (after ≡ before)
+PutsBy (Err PastEnd) width n from is_byte before after = (length before % width ≡ 0) × (n < from + length before / width) × (after ≡ before)
 
--- a chunk with `width` bytes for each of some of n cells, from the cell `from` on: each byte is what `byte` says; or
--- it does not hold a whole number of cells, or the cells end before it does, and then it is as it was
+-- the same, where each byte is what `byte` says
 abbrev pub Puts : {X : Type 0} → Result X ChunkFault → ℕ → ℕ → ℕ → (ℕ → ℕ) → List ℕ → List ℕ → Type 0
-Puts (Ok x) width n from byte before after =
-    (length before % width ≡ 0) × (from + length before / width ≤ n) × (length after ≡ length before) × ((i : ℕ) → i < length before → slice_index after i ≡ byte i)
-Puts (Err Uneven) width n from byte before after = (length before % width ≢ 0) × (after ≡ before)
-Puts (Err PastEnd) width n from byte before after = (length before % width ≡ 0) × (n < from + length before / width) × (after ≡ before)
+Puts r width n from byte before after = PutsBy r width n from (λ i b. b ≡ byte i) before after
+
+-- byte i of such a chunk, which has the lowest bytes of a number of each cell: `gives` says which number
+abbrev pub IsByteOf : (ℕ → ℕ → Type 0) → ℕ → ℕ → ℕ → ℕ → Type 0
+IsByteOf gives width from i b = (v : ℕ) × gives (from + i / width) v × (b ≡ low_byte v (i % width))

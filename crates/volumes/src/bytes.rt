@@ -1,6 +1,8 @@
 // The bytes of the file that holds a field.
-ghost use Rattle.std.specs.Prelude.{◌≡◌, ℕ, ◌+◌, ◌*◌, ◌^◌, ◌<◌, ◌≤◌, length};
-ghost use Rattle.volumes.specs.Files.{point_number, WritesLow, file_byte, Puts};
+ghost use Rattle.std.specs.Prelude.{◌≡◌, ◌+◌, ◌*◌, ◌<◌, ◌≤◌, length};
+ghost use Rattle.std.specs.Fn.{FnReturnsAt};
+ghost use Rattle.grid.specs.Cells.{cell_at};
+ghost use Rattle.volumes.specs.Files.{point_number, file_byte, Puts, PutsBy, IsByteOf};
 
 use grid::Cell;
 
@@ -17,26 +19,33 @@ pub enum ChunkFault {
 fn point_number(point: Option<u32>) -> u32
     ensures { result ≡ point_number point }
 {
-    match point {
-        Some(number) => number,
-        None => u32::MAX,
+    point.unwrap_or(u32::MAX)
+}
+
+/// Fills the bytes with a number of each cell, of the cells from one on, in the `N` lowest bytes of that number.
+///
+/// Refused, with the bytes as they were, where they are not a multiple of `N`, or where the cells end before.
+fn put_each<const N: usize, F: Fn(&Cell) -> u64>(
+    cells: &[Cell],
+    from: usize,
+    bytes: &mut [u8],
+    number: F,
+) -> Result<(), ChunkFault>
+    requires width { (0 < N) × (N ≤ 8) }
+    requires callable { F.IsAlwaysCallable number }
+    ensures { PutsBy result N (length cells.now) from (IsByteOf (λ k. FnReturnsAt F.Fn number (cell_at cells.now k)) N from) bytes.old bytes.new }
+{
+    if bytes.len() % N != 0 {
+        return Err(ChunkFault::Uneven);
     }
-}
-
-/// Writes the eight bytes of a value at a place, the lowest first.
-fn put_value(bytes: &mut [u8], at: usize, value: u64)
-    requires { at + 8 ≤ length bytes.old }
-    ensures { WritesLow 8 at value bytes.old bytes.new }
-{
-    bytes[at..at + 8].copy_from_slice(&value.to_le_bytes());
-}
-
-/// Writes the four bytes of a point's number at a place, the lowest first.
-fn put_point(bytes: &mut [u8], at: usize, number: u32)
-    requires { at + 4 ≤ length bytes.old }
-    ensures { WritesLow 4 at number bytes.old bytes.new }
-{
-    bytes[at..at + 4].copy_from_slice(&number.to_le_bytes());
+    let count = bytes.len() / N;
+    if from > cells.len() || count > cells.len() - from {
+        return Err(ChunkFault::PastEnd);
+    }
+    for (k, cell) in cells[from..from + count].iter().enumerate() {
+        bytes[N * k..N * k + N].copy_from_slice(&number(cell).to_le_bytes()[..N]);
+    }
+    Ok(())
 }
 
 /// Fills the bytes with the values of the cells from a number on: those that the file has from eight times that number on.
@@ -45,17 +54,7 @@ fn put_point(bytes: &mut [u8], at: usize, number: u32)
 pub fn put_values(cells: &[Cell], from: usize, bytes: &mut [u8]) -> Result<(), ChunkFault>
     ensures { Puts result 8 (length cells.now) from (λ i. file_byte cells.now (8 * from + i)) bytes.old bytes.new }
 {
-    if bytes.len() % 8 != 0 {
-        return Err(ChunkFault::Uneven);
-    }
-    let count = bytes.len() / 8;
-    if from > cells.len() || count > cells.len() - from {
-        return Err(ChunkFault::PastEnd);
-    }
-    for k in 0..count {
-        put_value(bytes, 8 * k, cells[from + k].value);
-    }
-    Ok(())
+    put_each::<8, _>(cells, from, bytes, |cell| cell.value)
 }
 
 /// Fills the bytes with the points of the cells from a number on: those that the file has, after all values, from four
@@ -65,15 +64,10 @@ pub fn put_values(cells: &[Cell], from: usize, bytes: &mut [u8]) -> Result<(), C
 pub fn put_points(cells: &[Cell], from: usize, bytes: &mut [u8]) -> Result<(), ChunkFault>
     ensures { Puts result 4 (length cells.now) from (λ i. file_byte cells.now (8 * length cells.now + (4 * from + i))) bytes.old bytes.new }
 {
-    if bytes.len() % 4 != 0 {
-        return Err(ChunkFault::Uneven);
-    }
-    let count = bytes.len() / 4;
-    if from > cells.len() || count > cells.len() - from {
-        return Err(ChunkFault::PastEnd);
-    }
-    for k in 0..count {
-        put_point(bytes, 4 * k, point_number(cells[from + k].point));
-    }
-    Ok(())
+    put_each::<4, _>(
+        cells,
+        from,
+        bytes,
+        |cell| u64::from(point_number(cell.point)),
+    )
 }

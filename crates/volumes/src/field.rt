@@ -2,7 +2,7 @@
 ghost use Rattle.std.specs.Prelude.{◌≡◌, MatchResult};
 ghost use Rattle.pictures.specs.Numbered.{marks_by_number};
 ghost use Rattle.pbm.specs.Marks.{stack_extent, stack_marks};
-ghost use Rattle.volumes.specs.declared.field.VolumeFault.TheVariants.{NoMemory};
+ghost use Rattle.volumes.specs.declared.field.VolumeFault.TheVariants.{Stack, Refused, NoMemory};
 ghost use Rattle.volumes.specs.Volumes.{FieldFound, NoField, SetField, NoSetField, FindsVolume, FaultyVolume};
 
 use grid::{Cell, Refusal, Sizes};
@@ -31,6 +31,22 @@ pub enum VolumeFault {
     NoMemory,
 }
 
+impl From<StackFault> for VolumeFault {
+    ghost from_gives = { λ e r. r ≡ Stack e };
+
+    fn from(fault: StackFault) -> VolumeFault {
+        VolumeFault::Stack(fault)
+    }
+}
+
+impl From<Refusal> for VolumeFault {
+    ghost from_gives = { λ e r. r ≡ Refused e };
+
+    fn from(refusal: Refusal) -> VolumeFault {
+        VolumeFault::Refused(refusal)
+    }
+}
+
 impl From<AllocError> for VolumeFault {
     ghost from_gives = { λ _ r. r ≡ NoMemory };
 
@@ -52,10 +68,8 @@ fn field_of<R: Rule + Drop, P: Picture, W: Watch>(
     let count = sizes.nx * sizes.ny * sizes.nz;
     let blank = Cell::painted(false, 0);
     let mut cells = vec![in heap; blank; count as usize]?;
-    match find_field_watched(rule, picture, &mut cells, watch) {
-        Ok(_) => Ok(cells),
-        Err(kept) => Err(VolumeFault::Refused(kept.refusal)),
-    }
+    find_field_watched(rule, picture, &mut cells, watch).map_err(|kept| kept.refusal)?;
+    Ok(cells)
 }
 
 /// Finds the field of a stack under the rule and the spacings of the settings, which fit.
@@ -69,18 +83,9 @@ fn set_field<W: Watch>(
 {
     let Settings { rule, sx, sy, sz } = settings;
     match rule {
-        RuleName::Square => match Square::new(sx, sy, sz) {
-            Ok(square) => field_of(heap, square, stack, watch),
-            Err(refusal) => Err(VolumeFault::Refused(refusal)),
-        },
-        RuleName::Block => match Block::new(sx, sy, sz) {
-            Ok(block) => field_of(heap, block, stack, watch),
-            Err(refusal) => Err(VolumeFault::Refused(refusal)),
-        },
-        RuleName::Chess => match Chess::new(sx, sy, sz) {
-            Ok(chess) => field_of(heap, chess, stack, watch),
-            Err(refusal) => Err(VolumeFault::Refused(refusal)),
-        },
+        RuleName::Square => field_of(heap, Square::new(sx, sy, sz)?, stack, watch),
+        RuleName::Block => field_of(heap, Block::new(sx, sy, sz)?, stack, watch),
+        RuleName::Chess => field_of(heap, Chess::new(sx, sy, sz)?, stack, watch),
     }
 }
 
@@ -97,10 +102,7 @@ pub fn find_volume<W: Watch>(
 ) -> Result<Volume, VolumeFault>
     ensures { MatchResult result (λ v. FindsVolume settings input.now v.sizes v.cells.items) (λ e. FaultyVolume settings input.now e) }
 {
-    let stack = match Stack::new(input) {
-        Ok(stack) => stack,
-        Err(fault) => return Err(VolumeFault::Stack(fault)),
-    };
+    let stack = Stack::new(input)?;
     let cells = set_field(heap, settings, &stack, watch)?;
     Ok(Volume {
         sizes: stack.sizes(),

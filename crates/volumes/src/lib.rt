@@ -3,6 +3,7 @@
 #![tactic(auto)]
 
 mod bytes;
+mod fault_words;
 mod field;
 mod summary;
 mod words;

@@ -24,23 +24,14 @@ pub struct Summary {
 fn count_marked(cells: &[Cell]) -> usize
     ensures { result ≡ count_below (marks_in cells.now) (length cells.now) }
 {
-    let mut count = 0;
-    for cell in cells {
-        if cell.marked {
-            count += 1;
-        }
-    }
-    count
+    cells.iter().filter(|cell| cell.marked).count()
 }
 
 /// Whether a value is above that of the farthest cell so far.
 fn beats(best: Option<Farthest>, value: u64) -> bool
     ensures { result ≡ beaten best value }
 {
-    match best {
-        None => true,
-        Some(farthest) => farthest.value < value,
-    }
+    best.is_none_or(|farthest| farthest.value < value)
 }
 
 /// The lowest number of a cell that has the largest value, of those that have a point; none where no cell has one.

@@ -22,7 +22,7 @@ fn read_rule(word: &str) -> Option<RuleName>
 fn fits(spacing: u32) -> bool
     ensures { MatchBool result (IsSpacing spacing) ((spacing < 1) ⊎ (10000 < spacing)) }
 {
-    1 <= spacing && spacing <= MAX_SPACING
+    (1..=MAX_SPACING).contains(&spacing)
 }
 
 /// The spacing whose decimal digits a word is, with no zero in front.
@@ -48,17 +48,9 @@ fn read_spacing(word: &[u8]) -> Option<u32>
 pub fn read_settings(rule: &str, sx: &str, sy: &str, sz: &str) -> Result<Settings, Column>
     ensures { MatchResult result (λ s. WritesSettings rule.now sx.now sy.now sz.now s) (λ c. FaultyWord rule.now sx.now sy.now sz.now c) }
 {
-    let Some(rule) = read_rule(rule) else {
-        return Err(Column::Rule);
-    };
-    let Some(sx) = read_spacing(sx.as_bytes()) else {
-        return Err(Column::Sx);
-    };
-    let Some(sy) = read_spacing(sy.as_bytes()) else {
-        return Err(Column::Sy);
-    };
-    let Some(sz) = read_spacing(sz.as_bytes()) else {
-        return Err(Column::Sz);
-    };
+    let rule = read_rule(rule).ok_or(Column::Rule)?;
+    let sx = read_spacing(sx.as_bytes()).ok_or(Column::Sx)?;
+    let sy = read_spacing(sy.as_bytes()).ok_or(Column::Sy)?;
+    let sz = read_spacing(sz.as_bytes()).ok_or(Column::Sz)?;
     Ok(Settings { rule, sx, sy, sz })
 }

@@ -1,11 +1,13 @@
-use Rattle.std.proofs.Common.{◌+◌, ◌*◌, sym, ◌∙◌, arith}
-use Rattle.volumes.proofs.Filing.{point_in_file}
+use Rattle.std.proofs.Common.{◌≡◌, ℕ, ◌+◌, ◌/◌, ◌%◌, length, ap, ◌∙◌, rules}
+use Rattle.grid.specs.Cells.{cell_at}
+use Rattle.volumes.specs.Files.{low_byte, point_number}
+use Rattle.volumes.proofs.Filing.{puts_weaker, point_in_file}
 use Rattle.volumes.proofs.bytes.put_points.Goals as goal
 
 pub returns : goal.returns
-returns c = (
-  c.if-bytes-ne0.false,
-  omega arith,
-  c.loop-k.auto.bytes,
-  λ i h. c.loop-k.invariant i (omega arith) ∙ sym (point_in_file c.args.cells.now (4 * c.args.from + i)),
-)
+returns c =
+    puts_weaker c.put_each.result 4 (length c.args.cells.now) c.args.from _ _ c.args.bytes.now c.put_each.new.bytes
+    (λ even few i b h given.
+    let number : given.0 ≡ point_number (cell_at c.args.cells.now (c.args.from + i / 4)).point = search rules in
+    point_in_file c.args.cells.now c.args.from i b (given.2 ∙ ap (λ (v : ℕ). low_byte v (i % 4)) number))
+    c.put_each.ensures

@@ -3,23 +3,23 @@ use Rattle.pbm.specs.Marks.{stack_extent, stack_marks}
 use Rattle.volumes.proofs.Finding.{named_rule, no_set_field}
 use Rattle.volumes.proofs.field.set_field.Goals as goal
 
-pub returns-in-Ok : goal.returns-in-Ok
-returns-in-Ok g c =
-    let made = c.in-Ok.ensures in
+pub returns-in_ok-new-in-Square : goal.returns-in_ok-new-in-Square
+returns-in_ok-new-in-Square g c =
+    let made = c.in_ok-new-in-Square.ensures in
     MatchResult-weaker c.field_of.result c.field_of.ensures
-    (λ v field. named_rule c.args.settings _ c.in-Square.is c.in-Ok.square.spacings made.1 _ _ _ field)
+    (λ v field. named_rule c.args.settings _ c.in-Square.is c.in_ok-new-in-Square.field-0.spacings made.1 _ _ _ field)
     (no_set_field c.args.settings (stack_extent c.args.stack.now) (stack_marks c.args.stack.now) made.0)
 
-pub returns-in-Ok-new : goal.returns-in-Ok-new
-returns-in-Ok-new g c =
-    let made = c.in-Ok-new.ensures in
-    MatchResult-weaker c.field_of-in-Ok-new.result c.field_of-in-Ok-new.ensures
-    (λ v field. named_rule c.args.settings _ c.in-Block.is c.in-Ok-new.block.spacings made.1 _ _ _ field)
+pub returns-in_ok-new-in-Block : goal.returns-in_ok-new-in-Block
+returns-in_ok-new-in-Block g c =
+    let made = c.in_ok-new-in-Block.ensures in
+    MatchResult-weaker c.field_of-in-Block.result c.field_of-in-Block.ensures
+    (λ v field. named_rule c.args.settings _ c.in-Block.is c.in_ok-new-in-Block.field-0.spacings made.1 _ _ _ field)
     (no_set_field c.args.settings (stack_extent c.args.stack.now) (stack_marks c.args.stack.now) made.0)
 
-pub returns-in-Ok-new-2 : goal.returns-in-Ok-new-2
-returns-in-Ok-new-2 g c =
-    let made = c.in-Ok-new-2.ensures in
-    MatchResult-weaker c.field_of-in-Ok-new-2.result c.field_of-in-Ok-new-2.ensures
-    (λ v field. named_rule c.args.settings _ c.in-Chess.is c.in-Ok-new-2.chess.spacings made.1 _ _ _ field)
+pub returns-in_ok-new-in-Chess : goal.returns-in_ok-new-in-Chess
+returns-in_ok-new-in-Chess g c =
+    let made = c.in_ok-new-in-Chess.ensures in
+    MatchResult-weaker c.field_of-in-Chess.result c.field_of-in-Chess.ensures
+    (λ v field. named_rule c.args.settings _ c.in-Chess.is c.in_ok-new-in-Chess.field-0.spacings made.1 _ _ _ field)
     (no_set_field c.args.settings (stack_extent c.args.stack.now) (stack_marks c.args.stack.now) made.0)

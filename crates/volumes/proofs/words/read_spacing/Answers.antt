@@ -1,5 +1,5 @@
 use Rattle.std.proofs.Common.{arith}
-use Rattle.volumes.proofs.Reading.{none_read, is_spacing, no_digit, other_byte, out_of_range, digit_read}
+use Rattle.volumes.proofs.Reading.{none_read, no_digit, other_byte, out_of_range, digit_read}
 use Rattle.volumes.proofs.words.read_spacing.Goals as goal
 
 pub loop-b-init : goal.loop-b-init
@@ -20,7 +20,3 @@ loop-b-preserved c =
 
 pub returns-then-number-eq0 : goal.returns-then-number-eq0
 returns-then-number-eq0 c = no_digit c.args.word.now c.loop-b.b-index c.loop-b.number c.loop-b.invariant.0 c.loop-b-test.false c.if-number-eq0.true
-
-pub returns-else-number-eq0 : goal.returns-else-number-eq0
-returns-else-number-eq0 c =
-    is_spacing c.args.word.now c.loop-b.b-index c.loop-b.number c.loop-b.invariant.0 c.loop-b-test.false (omega (arith, c.if-number-eq0.false)) c.loop-b.invariant.1
