@@ -2,7 +2,7 @@ ghost use Rattle.std.specs.Prelude.{◌≡◌, ◌-◌, ◌<◌};
 ghost use Rattle.rows.specs.Stacks.{Within, Overtakes, cost_of};
 
 use grid::Axis;
-use rules::Rule;
+use rules::{Point, Rule};
 
 /// A point of a row that may be nearest from the place `start` on. It stands at `place` and carries `value`.
 #[derive(Clone, Copy)]
@@ -11,6 +11,19 @@ pub(crate) struct Candidate {
     pub(crate) start: u16,
     pub(crate) point: u32,
     pub(crate) value: u64,
+}
+
+impl Candidate {
+    /// The point that the candidate is, where it stands.
+    fn stands(self) -> Point
+        ensures place { result.place ≡ self.place }
+        ensures carried { result.carried ≡ self.value }
+    {
+        Point {
+            place: self.place as u32,
+            carried: self.value,
+        }
+    }
 }
 
 /// What stands in room that is not in use.
@@ -27,13 +40,7 @@ pub(crate) fn overtaking<R: Rule>(rule: &R, axis: Axis, old: Candidate, new: Can
     requires new { Within (R.ceiling rule.now (axis.number - 1)) 1023 new }
     ensures { Overtakes (R.near rule.now axis.number) old new result }
 {
-    let place = rule.crossing_in(
-        axis.number,
-        old.place as u32,
-        old.value,
-        new.place as u32,
-        new.value,
-    );
+    let place = rule.crossing_in(axis.number, old.stands(), new.stands());
     place as u16
 }
 
@@ -43,10 +50,5 @@ pub(crate) fn cost<R: Rule>(rule: &R, axis: Axis, candidate: Candidate, t: u16) 
     requires place { t < 1023 }
     ensures { result ≡ cost_of (R.near rule.now axis.number) candidate t }
 {
-    rule.near_in(
-        axis.number,
-        candidate.place as u32,
-        t as u32,
-        candidate.value,
-    )
+    rule.near_in(axis.number, candidate.stands(), t as u32)
 }

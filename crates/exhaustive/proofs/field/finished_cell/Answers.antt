@@ -8,7 +8,7 @@ use Rattle.exhaustive.proofs.field.finished_cell.Goals.{in-Some, in-None}
 pub returns : goal.returns
 returns g c =
     let near = g.R.Rule.near c.args.rule.now in
-    let s = c.args.sizes in
+    let s = c.args.grid.sizes in
     let marks = marks_by_number s (g.P.Picture.marks c.args.picture.now) in
     let Right : Option ℕ × ℕ → Type 0 = λ a. Answers near s marks 3 c.args.at a.0 a.1 in
     let right : Right c.match-nearest_in.point =
@@ -18,7 +18,7 @@ returns g c =
     ] in
     record {
       holds = record {
-        mark = mark_told (g.P.Picture.marks c.args.picture.now) s c.args.at c.place_in.result c.marked.result c.place_in.ensures c.marked.ensures;
+        mark = mark_told (g.P.Picture.marks c.args.picture.now) s c.args.at c.place.result c.marked.result c.place.ensures c.marked.ensures;
         level_at_most_3 = omega arith;
         nearest = right;
       };
