@@ -32,7 +32,7 @@ use Rattle.job.specs.Changes.{Changes}
 use Rattle.job.specs.Moves.{Moves, IsPainting, IsWorking, IsFinished}
 use Rattle.job.proofs.RowWork.{lent_open}
 use Rattle.job.proofs.Writing.{some_place_at}
-use Rattle.replay.specs.Whole.{AxisDone, AllDone, field_door}
+use Rattle.replay.specs.Whole.{AxisDone, AllDone, field_door, FindsField}
 use Rattle.replay.proofs.Painted.{marks_painted, painted_all, picture_past}
 use Rattle.replay.proofs.Rowed.{marks_rowed, no_value_refused, which_place}
 
@@ -62,6 +62,17 @@ module _ {X : Type 0} (r : Result X Refusal) (door : Option Refusal) (before aft
 
   pub changed : (x : X) → r ≡ Ok x → New
   changed x is = (subst (λ q. Changes q door before after New) is changes).1
+
+module _ {R : Type 0} (r : Result (Finished R) (Kept R)) (near : Near) (rule : R) (s : Sizes) (marks : ℕ → Bool) (before after : List Cell) (finds : FindsField r near rule s marks before after) where
+  pub found_through : field_door s marks before ≡ None → IsOk r
+  found_through none = go r finds
+    where
+      go : (q : Result (Finished R) (Kept R)) → FindsField q near rule s marks before after → IsOk q
+      go (Ok f) h = refl
+      go (Err kept) h = absurd (never_refused (field_door s marks before) kept.refusal none h.0)
+
+  pub found_field : (f : Finished R) → r ≡ Ok f → FinishedField near s marks after
+  found_field f is = (subst (λ q. FindsField q near rule s marks before after) is finds).2
 
 pub begin_open : (s : Sizes) (cells : List Cell) → IsGrid s → length cells ≡ cell_count s → begin_door s cells ≡ None
 begin_open s cells grid fits =

@@ -96,7 +96,6 @@ module _ (s : Sizes) (marks : Place → Bool) (answers : AnswersHalfGrid s marks
   can_read ceiling near bounded ceilings half same cells finished =
       record {
         sizes = same;
-        is_grid = subst IsGrid (sym same) half_is_grid;
         all_cells = finished.all_hold.one_each ∙ ap cell_count (sym same);
         small = λ q h. small q (subst (λ n. q < cell_count n) same h);
       }

@@ -3,7 +3,7 @@ use Rattle.std.specs.Prelude.{◌≡◌, ℕ, ◌^◌, ◌<◌, ◌≤◌, Bool,
 use Rattle.grid.specs.declared.cell.Cell.{Cell}
 use Rattle.grid.specs.declared.refusal.Refusal.{Refusal}
 use Rattle.grid.specs.declared.sizes.Sizes.{Sizes}
-use Rattle.grid.specs.Geometry.{Place, IsGrid, cell_count, place_of}
+use Rattle.grid.specs.Geometry.{Place, cell_count, place_of}
 use Rattle.grid.specs.Distance.{Near}
 use Rattle.grid.specs.Cells.{FinishedField, cell_at}
 use Rattle.pictures.specs.Faces.{half_sizes}
@@ -50,6 +50,5 @@ pub record TurnedField (near : Near) (s : Sizes) (marks : Place → Bool) (cells
 -- what the writing of the numbers needs: a finished field of the half-grid with values that can be negated, and room
 pub record CanRead (s half : Sizes) (cells : List Cell) : Type 0 where
   pub sizes : half ≡ half_sizes s
-  pub is_grid : IsGrid half
   pub all_cells : length cells ≡ cell_count half
   pub small : (q : ℕ) → q < cell_count half → (cell_at cells q).value ≤ 2 ^ 62

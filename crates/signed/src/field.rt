@@ -19,10 +19,7 @@ fn find_whole<R: Rule + Drop, P: Picture>(rule: R, picture: &P, cells: &mut [Cel
     requires mark { SomeMarked (P.extent picture.now) (P.marks picture.now) }
     ensures { FinishedField (R.near rule) (P.extent picture.now) (marks_by_number (P.extent picture.now) (P.marks picture.now)) cells.new }
 {
-    match find_field(rule, picture, cells) {
-        Ok(_) => {}
-        Err(_) => unreachable(),
-    }
+    let _ = find_field(rule, picture, cells).unwrap();
 }
 
 /// Fills the output with the signed distances of a picture's cells: each is the distance from the cell to the nearest
@@ -42,9 +39,9 @@ pub fn signed<P: Picture, R: Rule + Drop>(
     ensures { Fills result (P.extent picture.now) (P.marks picture.now) cells.old cells.new output.old output.new (SignedField (R.near rule) (P.extent picture.now) (P.marks picture.now) cells.new output.new) }
 {
     let half = HalfGrid::new(picture)?;
-    check_room(picture, half.sizes(), cells.len(), output.len())?;
+    check_room(picture, half.grid(), cells, output)?;
     find_whole(rule, &half, cells);
-    write_numbers(picture, half.sizes(), cells, output);
+    write_numbers(picture, half.grid(), cells, output);
     Ok(())
 }
 

@@ -1,30 +1,27 @@
-ghost use Rattle.std.specs.Prelude.{◌≡◌};
-ghost use Rattle.grid.specs.Geometry.{IsGrid};
+ghost use Rattle.std.specs.Prelude.{◌≡◌, length};
 ghost use Rattle.grid.specs.Doors.{Admits};
 ghost use Rattle.pictures.specs.Faces.{half_sizes};
 ghost use Rattle.pictures.specs.Kinds.{BothKinds};
 ghost use Rattle.signed.specs.Doors.{room_door};
 
-use grid::{Refusal, Sizes};
+use grid::{Cell, Grid, Refusal};
 use pictures::{Picture, has_both_kinds};
 
-/// Whether so many cells and numbers are room for the signed field of a picture with a half-grid of these sizes, and the
-/// picture has both kinds of cell.
+/// Whether there is one of the cells for each place of a picture's half-grid, and one of the numbers for each of its cells,
+/// and the picture has both kinds of cell.
 pub(crate) fn check_room<P: Picture>(
     picture: &P,
-    half: Sizes,
-    cells: usize,
-    numbers: usize,
+    half: Grid,
+    cells: &[Cell],
+    output: &[i64],
 ) -> Result<(), Refusal>
-    requires half { half ≡ half_sizes (P.extent picture.now) }
-    requires grid { IsGrid half }
-    ensures { Admits result (room_door (P.extent picture.now) (P.marks picture.now) cells numbers) (λ _. BothKinds (P.extent picture.now) (P.marks picture.now)) }
+    requires { half.sizes ≡ half_sizes (P.extent picture.now) }
+    ensures { Admits result (room_door (P.extent picture.now) (P.marks picture.now) (length cells.now) (length output.now)) (λ _. BothKinds (P.extent picture.now) (P.marks picture.now)) }
 {
-    let sizes = picture.sizes();
-    if cells != (half.nx * half.ny * half.nz) as usize {
+    if !half.fits(cells) {
         return Err(Refusal::CellCount);
     }
-    if numbers != (sizes.nx * sizes.ny * sizes.nz) as usize {
+    if !picture.grid().fits(output) {
         return Err(Refusal::OutputCount);
     }
     if !has_both_kinds(picture) {

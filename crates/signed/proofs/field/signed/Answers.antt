@@ -29,7 +29,7 @@ write_numbers-requires g c =
     let room = c.in_ok-check_room.ensures in
     record {
       field = can_read (pic.extent p) (pic.marks p) made.1 (g.R.Rule.ceiling rule) near (g.met.R.Rule.bounded rule) (g.met.R.Rule.ceilings rule)
-          c.sizes-2.result (c.sizes-2.ensures ∙ held_sizes pic.extent pic.marks below p made.0 made.1)
+          c.grid-2.result.sizes (c.grid-2.ensures ∙ held_sizes pic.extent pic.marks below p made.0 made.1)
           cells (held_field pic.extent pic.marks below p made.0 made.1 near cells c.find_whole.ensures);
       room = numbers_counted (pic.extent p) (pic.marks p) (length c.args.cells.now) (length c.args.output.now) room.0;
     }

@@ -6,9 +6,9 @@ use Rattle.signed.proofs.numbers.number_at.Goals as goal
 
 pub returns-then-marked : goal.returns-then-marked
 returns-then-marked g c =
-    let at = c.number_in-at.result in
+    let at = c.number-at.result in
     let cells = c.args.cells.now in
     let b = g.P.Picture.marks c.args.picture.now c.args.place in
-    negation_fits (cell_at cells at).value (c.requires.field.small at c.number_in-at.ensures.bound)
+    negation_fits (cell_at cells at).value (c.requires.field.small at c.number-at.ensures.bound)
     ∙ sign_of_marked b (cell_at cells at).value c.if-marked.ensures
-    ∙ ap (λ k. with_sign b (cell_at cells k).value) c.number_in-at.ensures.value
+    ∙ ap (λ k. with_sign b (cell_at cells k).value) c.number-at.ensures.value

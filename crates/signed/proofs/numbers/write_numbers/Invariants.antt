@@ -7,5 +7,5 @@ use Rattle.signed.proofs.numbers.write_numbers.Given as goal
 
 abbrev pub invariant-loop-number : goal.invariant-loop-number
 invariant-loop-number g l =
-    ((k : ℕ) → k < l.number-index → number_at l.output k ≡ with_sign (g.P.Picture.marks l.picture (place_of l.sizes k)) (cell_at l.cells (doubled_number l.sizes k)).value)
-    × (l.place ≡ place_of l.sizes l.number-index)
+    ((k : ℕ) → k < l.number-index → number_at l.output k ≡ with_sign (g.P.Picture.marks l.picture (place_of l.grid.sizes k)) (cell_at l.cells (doubled_number l.grid.sizes k)).value)
+    × (l.place ≡ place_of l.grid.sizes l.number-index)

@@ -1,4 +1,5 @@
-use Rattle.std.proofs.Common.{◌≡◌, refl, ap, arith}
+use Rattle.std.proofs.Common.{◌≡◌, length, sym, refl, ap, ◌∙◌}
+use Rattle.std.proofs.lemmas.Bool.{eqb-true}
 use Rattle.grid.specs.Geometry.{cell_count}
 use Rattle.pictures.specs.Faces.{half_sizes}
 use Rattle.signed.proofs.TwoKinds.{both_kinds_answer}
@@ -9,9 +10,9 @@ pub returns-then-not-has_both_kinds : goal.returns-then-not-has_both_kinds
 returns-then-not-has_both_kinds g c =
     let p = c.args.picture.now in
     let s = g.P.Picture.extent p in
-    let cells : c.args.cells ≡ cell_count (half_sizes s) = omega (arith, ap cell_count c.requires.half) in
-    let numbers : c.args.numbers ≡ cell_count s = omega (arith, ap cell_count c.sizes-sizes.ensures) in
-    with_room s (g.P.Picture.marks p) c.args.cells c.args.numbers cells numbers _
+    let cells : length c.args.cells.now ≡ cell_count (half_sizes s) = eqb-true _ _ (sym c.fits.ensures ∙ c.if-not-fits.false) ∙ ap cell_count c.requires in
+    let numbers : length c.args.output.now ≡ cell_count s = eqb-true _ _ (sym c.fits-2.ensures ∙ c.if-not-fits-2.false) ∙ ap cell_count c.grid.ensures in
+    with_room s (g.P.Picture.marks p) (length c.args.cells.now) (length c.args.output.now) cells numbers _
     (both_kinds_answer s (g.P.Picture.lawful.grid p) (g.P.Picture.marks p) _ c.if-not-has_both_kinds.ensures)
 
 pub returns : goal.returns
@@ -19,9 +20,9 @@ returns g c =
     let p = c.args.picture.now in
     let s = g.P.Picture.extent p in
     let kinds = c.if-not-has_both_kinds.ensures in
-    let cells : c.args.cells ≡ cell_count (half_sizes s) = omega (arith, ap cell_count c.requires.half) in
-    let numbers : c.args.numbers ≡ cell_count s = omega (arith, ap cell_count c.sizes-sizes.ensures) in (
-      with_room s (g.P.Picture.marks p) c.args.cells c.args.numbers cells numbers _
+    let cells : length c.args.cells.now ≡ cell_count (half_sizes s) = eqb-true _ _ (sym c.fits.ensures ∙ c.if-not-fits.false) ∙ ap cell_count c.requires in
+    let numbers : length c.args.output.now ≡ cell_count s = eqb-true _ _ (sym c.fits-2.ensures ∙ c.if-not-fits-2.false) ∙ ap cell_count c.grid.ensures in (
+      with_room s (g.P.Picture.marks p) (length c.args.cells.now) (length c.args.output.now) cells numbers _
           (both_kinds_answer s (g.P.Picture.lawful.grid p) (g.P.Picture.marks p) _ kinds),
       kinds.0 refl,
     )
