@@ -38,6 +38,7 @@ impl From<Spacings> for Chess {
 }
 
 /// The lowest place at which the later of two points is no farther than the earlier, or 1,023.
+#[tactic(auto, using(crate::specs::Chesses::chess_low, crate::specs::Chesses::chess_at))]
 fn chess_crossing(s: u32, earlier: Point, later: Point) -> u32
     requires allowed { IsSpacing s }
     requires places { (earlier.place < later.place) × (later.place < 1023) }
