@@ -15,27 +15,20 @@ fn read_input(rt: &HostRuntime) -> anyhow::Result<Vec<u8>> {
     Ok(input)
 }
 
-/// Prints the report on the input, or its fault and nothing else; whether it was a report.
-fn run(rt: &HostRuntime) -> anyhow::Result<bool> {
-    let input = read_input(rt)?;
+/// Prints the report on the input, or its fault and nothing else.
+///
+/// Without a report the status is 1; an error that is no fault of the input is told on standard error.
+fn main(rt: HostRuntime) -> anyhow::Result<ExitCode> {
+    let input = read_input(&rt)?;
     match report(rt.alloc(), &input) {
         Ok(text) => {
             rt.print(text)?;
-            Ok(true)
+            Ok(ExitCode::SUCCESS)
         }
         Err(ReportError::Fault(fault)) => {
             rt.print(fault_text(rt.alloc(), fault)?)?;
-            Ok(false)
+            Ok(ExitCode::FAILURE)
         }
         Err(ReportError::NoMemory) => Err(anyhow!("there is not enough memory for the report")),
-    }
-}
-
-/// An error ends the program with status 1; one that is no fault of the input is told on standard error.
-fn main(rt: HostRuntime) -> anyhow::Result<ExitCode> {
-    if run(&rt)? {
-        Ok(ExitCode::SUCCESS)
-    } else {
-        Ok(ExitCode::FAILURE)
     }
 }

@@ -1,3 +1,2 @@
 mod Roots
-mod Printing
 mod Reporting

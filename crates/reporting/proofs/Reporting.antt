@@ -1,22 +1,22 @@
 -- From a finished field, a sound stack and a job text to the report on an input.
-use Rattle.std.proofs.Common.{◌≡◌, ℕ, ◌+◌, ◌-◌, ◌<◌, ◌≤◌, min, Bool, true, false, List, length, Some, None, Option, sym, refl, ap, ◌∙◌, subst, arith, eq-eqb}
+use Rattle.std.proofs.Common.{Result, Ok, Err, MatchResult, ◌≡◌, ℕ, ◌<◌, ◌≤◌, Bool, true, false, List, length, Some, None, Option, sym, refl, ap, ◌∙◌, subst, arith, eq-eqb}
 use Rattle.grid.specs.declared.refusal.Refusal.{Refusal}
 use Rattle.grid.specs.declared.refusal.Refusal.TheVariants.{NoMark, CellCount}
 use Rattle.grid.specs.Doors.{unless}
 use Rattle.job.specs.Doors.{some_place, start_door}
 use Rattle.job.proofs.Writing.{some_place_at}
-use Rattle.replay.specs.Whole.{field_door}
+use Rattle.job.specs.declared.states.Finished.{Finished}
+use Rattle.job.specs.declared.states.Kept.{Kept}
+use Rattle.replay.specs.Whole.{field_door, FindsField}
 use Rattle.reporting.specs.declared.faults.ReportFault.TheVariants.{Field}
+use Rattle.reporting.specs.declared.faults.ReportFault.{ReportFault}
 use Rattle.grid.specs.declared.cell.Cell.{Cell}
 use Rattle.grid.specs.declared.sizes.Sizes.{Sizes}
 use Rattle.grid.specs.Geometry.{Place, cell_count}
 use Rattle.grid.specs.Distance.{Near}
 use Rattle.grid.specs.Cells.{Marks, Answers, FinishedField, cell_at}
 use Rattle.pictures.specs.Numbered.{marks_by_number}
-use Rattle.pbm.specs.declared.faults.StackFault.{StackFault}
 use Rattle.pbm.specs.declared.stack.Stack.{Stack}
-use Rattle.pbm.specs.Causes.{counted_from}
-use Rattle.pbm.specs.Faults.{FaultyBytes}
 use Rattle.pbm.specs.Marks.{stack_extent, stack_marks}
 use Rattle.pbm.specs.Promises.{Shows}
 use Rattle.rules.specs.declared.spacings.Spacings.{Spacings}
@@ -27,9 +27,8 @@ use Rattle.reporting.specs.declared.faults.ReportError.TheVariants.{Fault, NoMem
 use Rattle.job_text.specs.declared.settings.RuleName.{RuleName}
 use Rattle.job_text.specs.declared.settings.Settings.{Settings}
 use Rattle.job_text.specs.Jobs.{IsJob}
-use Rattle.job_text.proofs.Lengths.{stack_length}
 use Rattle.reporting.specs.Texts.{NoPoint, LacksPoint}
-use Rattle.reporting.specs.Reports.{SettingsFit, near_of, ReportsField, ReportsStack, Unmarked, NoField, Sound, ReportsInput, FaultyStack, TooLarge, FaultyInput, Refuses}
+use Rattle.reporting.specs.Reports.{SettingsFit, near_of, ReportsField, ReportsStack, Unmarked, NoField, Sound, ReportsInput, FaultyInput, Refuses}
 
 -- a finished field in which a cell has no point has no mark
 pub unmarked_from_no_point : (near : Near) (s : Sizes) (marks : Marks) (cells : List Cell) → FinishedField near s marks cells → NoPoint cells → Unmarked s marks
@@ -66,45 +65,10 @@ named_rule settings name is w has s marks text field =
     let P : RuleName → Type 0 = λ n. ReportsField settings.rule (near_of n w) s (marks_by_number s marks) text in
     record { spacings = w; as_set = has; field = subst P (sym is) field }
 
-least_of : (a b : ℕ) → a ≤ b → min a b ≡ a
-least_of a b h = omega arith
-
--- a fault of the stack, counted from the input's start
-pub faulty_stack : (input : List ℕ) (s : Settings) (stack : List ℕ) → IsJob input s stack → (f g : StackFault) → FaultyBytes stack f → f.byte ≤ length stack
-    → g ≡ counted_from (length input - length stack) f → FaultyStack input g
-faulty_stack input s stack job f g faulty within e =
-    let short = stack_length input s stack job in
-    let few : f.byte + (length input - length stack) ≤ 18446744073709551615 = omega (arith, job.short) in
-    let moved = least_of (f.byte + (length input - length stack)) 18446744073709551615 few in
-    let at : g.byte ≡ min (f.byte + (length input - length stack)) 18446744073709551615 = ap (λ (x : StackFault). x.byte) e in
-    record {
-      settings = s;
-      stack = stack;
-      job = job;
-      in_stack = f;
-      faulty = faulty;
-      cause = ap (λ (x : StackFault). x.cause) e;
-      image = ap (λ (x : StackFault). x.image) e;
-      byte = omega arith;
-    }
-
 module _ (input : List ℕ) (s : Settings) (stack : List ℕ) (job : IsJob input s stack) (read : Stack) (shows : Shows read stack)
     (sizes : Sizes) (told : sizes ≡ stack_extent read) where
   sizes_are : sizes ≡ read.sizes
   sizes_are = told ∙ shows.extent
-
-  pub large_stack : 2048 < cell_count sizes → TooLarge input (length input - length stack)
-  large_stack many =
-      record {
-        settings = s;
-        stack = stack;
-        job = job;
-        sizes = read.sizes;
-        form = shows.lies_over.form;
-        grid = shows.lies_over.grid;
-        many = subst (λ (n : Sizes). 2048 < cell_count n) sizes_are many;
-        byte = omega (arith, stack_length input s stack job);
-      }
 
   module _ (few : cell_count sizes ≤ 2048) where
     sound : Sound input s stack read.sizes
@@ -129,3 +93,18 @@ module _ (input : List ℕ) (s : Settings) (stack : List ℕ) (job : IsJob input
         let none = subst Q shows.bits (subst P shows.extent h.1) in
         subst (FaultyInput input) (sym h.0) (refl, record { settings = s; stack = stack; sizes = read.sizes; sound = sound; unmarked = none })
     no_report NoMemory h = record { settings = s; stack = stack; sizes = read.sizes; sound = sound }
+
+-- what is promised of a result, at the value that is left where its error is mapped
+pub promised_of_ok : {T E : Type 0} (D : Type 0) (P : T → Type 0) (Q : E → Type 0) (r : Result T E) (x : T) → MatchResult r (λ y. ◌≡◌ {A = Result T D} (Ok x) (Ok y)) (λ _. ⊥)
+    → MatchResult r P Q → P x
+promised_of_ok D P Q (Ok y) x same holds = let e : y ≡ x = cc in subst P e holds
+promised_of_ok D P Q (Err e) x same holds = absurd same
+
+-- the refusal of a field that has as many cells as its picture, made a fault
+pub no_field_from_refusal : {R : Type 0} (r : Result (Finished R) (Kept R)) (near : Near) (rule : R) (s : Sizes) (marks : Marks) (before after : List Cell) (f : ReportFault)
+    → MatchResult r (λ x. ◌≡◌ {A = Result (Finished R) ReportFault} (Err f) (Ok x)) (λ k. f ≡ Field k.refusal) → FindsField r near rule s marks before after
+    → length before ≡ cell_count s → NoField s marks (Fault f)
+no_field_from_refusal (Ok x) near rule s marks before after f is finds same = let y : ◌≡◌ {A = ℕ} 0 1 = cc in absurd (omega arith)
+no_field_from_refusal (Err k) near rule s marks before after f is finds same =
+    let none = no_field_behind_door s marks before k.refusal same finds.0 in
+    (is ∙ none.0, none.1)

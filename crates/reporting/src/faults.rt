@@ -1,12 +1,14 @@
 // What is wrong with an input, and how it is told.
-ghost use Rattle.std.specs.Prelude.{◌≡◌, IsAscii};
+ghost use Rattle.std.specs.Prelude.{◌≡◌, Some};
 ghost use Rattle.reporting.specs.Faults.{part_name, fault_part, fault_numbers};
-ghost use Rattle.reporting.specs.declared.faults.ReportError.TheVariants.{NoMemory};
+ghost use Rattle.reporting.specs.declared.faults.ReportError.TheVariants.{Fault, NoMemory};
+ghost use Rattle.reporting.specs.declared.faults.ReportFault.TheVariants.{Job};
 
 use grid::Refusal;
 use job_text::JobFault;
 use pbm::StackFault;
 use std::alloc::AllocError;
+use std::fmt;
 
 /// What is wrong with an input. Bytes count from the input's start.
 #[derive(Clone, Copy, Debug)]
@@ -46,6 +48,22 @@ impl From<AllocError> for ReportError {
     }
 }
 
+impl From<JobFault> for ReportError {
+    ghost from_gives = { λ f r. r ≡ Fault (Job f) };
+
+    fn from(fault: JobFault) -> ReportError {
+        ReportError::Fault(ReportFault::Job(fault))
+    }
+}
+
+impl From<ReportFault> for ReportError {
+    ghost from_gives = { λ f r. r ≡ Fault f };
+
+    fn from(fault: ReportFault) -> ReportError {
+        ReportError::Fault(fault)
+    }
+}
+
 impl Part {
     /// The part's name in the printed fault.
     pub fn name(self) -> &'static str
@@ -56,6 +74,15 @@ impl Part {
             Part::Stack => "stack",
             Part::Field => "field",
         }
+    }
+}
+
+/// Prints the part's name.
+impl fmt::Display for Part {
+    ghost output = { λ p. Some (part_name p) };
+
+    fn fmt<W: fmt::Write>(&self, f: &mut fmt::Formatter<W>) -> fmt::Result {
+        f.write_str(self.name())
     }
 }
 

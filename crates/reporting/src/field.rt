@@ -29,10 +29,8 @@ fn report_cells<R: Rule + Drop, P: Picture>(
     requires { length cells.old ≡ cell_count (P.extent picture.now) }
     ensures { MatchResult result (λ t. ReportsField name (R.near rule) (P.extent picture.now) (marks_by_number (P.extent picture.now) (P.marks picture.now)) (string_bytes t)) (λ e. NoField (P.extent picture.now) (marks_by_number (P.extent picture.now) (P.marks picture.now)) e) }
 {
-    match find_field(rule, picture, cells) {
-        Ok(_) => field_text(heap, name, picture.sizes(), cells),
-        Err(kept) => Err(ReportError::Fault(ReportFault::Field(kept.refusal))),
-    }
+    find_field(rule, picture, cells).map_err(|kept| ReportFault::Field(kept.refusal))?;
+    field_text(heap, name, picture.sizes(), cells)
 }
 
 /// Finds the field of a picture under a rule, and prints it.
@@ -83,20 +81,12 @@ fn report_stack(heap: Global, settings: Settings, stack: &Stack) -> Result<Strin
 pub fn report(heap: Global, input: &[u8]) -> Result<String, ReportError>
     ensures { MatchResult result (λ t. ReportsInput input.now (string_bytes t)) (λ e. Refuses input.now e) }
 {
-    let job = match read_job(input) {
-        Ok(job) => job,
-        Err(fault) => return Err(ReportError::Fault(ReportFault::Job(fault))),
-    };
+    let job = read_job(input)?;
     let start = input.len() - job.stack.len();
-    let stack = match Stack::new(job.stack) {
-        Ok(stack) => stack,
-        Err(fault) => {
-            return Err(ReportError::Fault(ReportFault::Stack(fault.moved_by(start))));
-        }
-    };
+    let stack = Stack::new(job.stack).map_err(|fault| ReportFault::Stack(fault.moved_by(start)))?;
     let sizes = stack.sizes();
     if sizes.nx * sizes.ny * sizes.nz > MOST_CELLS {
-        return Err(ReportError::Fault(ReportFault::LargeStack(start)));
+        return Err(ReportFault::LargeStack(start).into());
     }
     report_stack(heap, job.settings, &stack)
 }
