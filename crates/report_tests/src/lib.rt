@@ -116,13 +116,9 @@ mod tests {
     fn tells_inputs_that_are_too_long(rt: HostRuntime) -> Result<(), Fail> {
         let heap = rt.alloc();
         let mut input = b"rule sx sy sz\nsquare 2 2 2\nP4\n1023 3\n".to_vec(heap)?;
-        for _ in 0..384 {
-            input.push(0)?;
-        }
+        input.resize(421, 0)?;
         faults(&rt, heap, &input, "stack 25 0 27")?;
-        for _ in 0..7771 {
-            input.push(0)?;
-        }
+        input.resize(8192, 0)?;
         faults(&rt, heap, &input, "stack 20 1 421")?;
         input.push(0)?;
         faults(&rt, heap, &input, "job 26 0 8192")
