@@ -6,7 +6,7 @@ use grid::Refusal;
 use std::alloc::AllocError;
 
 /// Why a call has no answer.
-#[derive(Clone, Copy)]
+#[derive(Clone, Copy, PartialEq, Eq, Debug)]
 pub enum Fault {
     /// A question about the arguments is answered no.
     Refused(Refusal),

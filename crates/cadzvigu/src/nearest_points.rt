@@ -30,10 +30,8 @@ fn fill_field<R: Rule + Drop, P: Picture>(
     requires mark { SomeMarked (P.extent picture.now) (P.marks picture.now) }
     ensures { HoldsNearest (R.near rule) (P.extent picture.now) (marks_by_number (P.extent picture.now) (P.marks picture.now)) values.new points.new }
 {
-    match find_field(rule, picture, cells) {
-        Ok(_) => write_field(cells, values, points),
-        Err(_) => unreachable(),
-    }
+    find_field(rule, picture, cells).unwrap();
+    write_field(cells, values, points);
 }
 
 /// Finds the field of a picture under a rule. Refused where there is not one value and one point for each cell (14), then
@@ -89,7 +87,7 @@ pub fn nearest(
     ensures { Ends result (nearest_door rule spacings sizes bytes.now (length values.old) (length points.old)) ((values.new ≡ values.old) × (points.new ≡ points.old)) (NearestBy rule spacings sizes bytes.now values.new points.new) }
 {
     let (sx, sy, sz) = spacings;
-    match RuleKind::of_number(rule)? {
+    match RuleKind::try_from(rule)? {
         RuleKind::Square => {
             let square = Square::new(sx, sy, sz)?;
             nearest_of_bytes(heap, square, sizes, bytes, values, points)

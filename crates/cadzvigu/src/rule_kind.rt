@@ -1,21 +1,24 @@
 ghost use Rattle.std.specs.Prelude.{◌≡◌, false, MatchResult};
+ghost use Rattle.cadzvigu.specs.declared.fault.Fault.TheVariants.{UnknownRule};
 ghost use Rattle.cadzvigu.specs.RuleKinds.{rule_number, is_rule_number};
 
 use crate::fault::Fault;
 
 /// A distance rule.
-#[derive(Clone, Copy)]
+#[derive(Clone, Copy, PartialEq, Eq, Debug)]
 pub enum RuleKind {
     Square,
     Block,
     Chess,
 }
 
-impl RuleKind {
-    /// The rule with a number: 1 is square, 2 block and 3 chess.
-    pub fn of_number(number: u32) -> Result<RuleKind, Fault>
-        ensures { MatchResult result (λ kind. number ≡ rule_number kind) (λ fault. (fault ≡ Fault.UnknownRule) × (is_rule_number number ≡ false)) }
-    {
+/// The rule with a number: 1 is square, 2 block and 3 chess.
+impl TryFrom<u32> for RuleKind {
+    type Error = Fault;
+
+    ghost try_from_gives = { λ number r. MatchResult r (λ kind. number ≡ rule_number kind) (λ fault. (fault ≡ UnknownRule) × (is_rule_number number ≡ false)) };
+
+    fn try_from(number: u32) -> Result<RuleKind, Fault> {
         match number {
             1 => Ok(RuleKind::Square),
             2 => Ok(RuleKind::Block),

@@ -50,10 +50,7 @@ fn fill_signed<R: Rule + Drop, P: Picture>(
     requires { signed_door (P.extent picture.now) (P.marks picture.now) (length cells.old) (length numbers.old) ≡ None }
     ensures { HoldsSigned (R.near rule) (P.extent picture.now) (P.marks picture.now) numbers.new }
 {
-    match signed(picture, rule, cells, numbers) {
-        Ok(()) => {}
-        Err(_) => unreachable(),
-    }
+    signed(picture, rule, cells, numbers).unwrap();
 }
 
 /// Finds the signed distances of a picture under a rule. Refused where a size is above 512 (13), the half-grid has more than
@@ -100,7 +97,7 @@ pub fn signed_distances(
     ensures { Ends result (signed_call_door rule spacings sizes bytes.now (length numbers.old)) (numbers.new ≡ numbers.old) (SignedBy rule spacings sizes bytes.now numbers.new) }
 {
     let (sx, sy, sz) = spacings;
-    match RuleKind::of_number(rule)? {
+    match RuleKind::try_from(rule)? {
         RuleKind::Square => {
             let square = Square::new(sx, sy, sz)?;
             signed_of_bytes(heap, square, sizes, bytes, numbers)
