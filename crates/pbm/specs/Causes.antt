@@ -11,6 +11,10 @@ cause_number Short = 22
 cause_number OtherSize = 23
 cause_number TooLarge = 24
 
+-- a fault with this cause, image and byte
+abbrev pub fault_in : Cause → ℕ → ℕ → StackFault
+fault_in cause image byte = record { cause = cause; image = image; byte = byte }
+
 abbrev pub fault_numbers : StackFault → ℕ × ℕ × ℕ
 fault_numbers f = (cause_number f.cause, f.image, f.byte)
 

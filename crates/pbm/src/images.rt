@@ -1,11 +1,12 @@
 // The header and the rows of one image.
-ghost use Rattle.std.specs.Prelude.{◌≡◌, MatchOption, MatchResult};
+ghost use Rattle.std.specs.Prelude.{◌≡◌, ◌+◌, ◌^◌, ◌<◌, MatchOption, MatchResult};
 ghost use Rattle.grid.specs.Geometry.{IsSize};
 ghost use Rattle.numerals.specs.Prefixes.{Follows, NotPrefix};
+ghost use Rattle.pbm.specs.Causes.{fault_in};
 ghost use Rattle.pbm.specs.Form.{magic, row_bytes};
 ghost use Rattle.pbm.specs.Faults.{Opens, Begins, FaultyHeader, FaultyImage};
 
-use crate::faults::Cause;
+use crate::faults::{Cause, StackFault};
 use grid::MAX_SIZE;
 use numerals::{Ending, read_number};
 
@@ -14,6 +15,20 @@ use numerals::{Ending, read_number};
 pub struct ImageFault {
     pub cause: Cause,
     pub byte: usize,
+}
+
+impl ImageFault {
+    /// The same fault of a whole stack, whose image of this number starts at the byte `start`.
+    pub fn in_image(self, image: usize, start: usize) -> StackFault
+        requires { start + self.byte < 2 ^ 64 }
+        ensures { result ≡ fault_in self.cause image (start + self.byte) }
+    {
+        StackFault {
+            cause: self.cause,
+            image,
+            byte: start + self.byte,
+        }
+    }
 }
 
 /// What the header of an image says, and what comes after it.
@@ -67,7 +82,7 @@ pub fn read_header(text: &[u8]) -> Result<Header<'_>, ImageFault>
 pub fn row_bytes(width: u32) -> usize
     ensures { result ≡ row_bytes width }
 {
-    (width as usize + 7) / 8
+    (width as usize).div_ceil(8)
 }
 
 /// Reads an image that is to have this width and height, and answers what comes after it.

@@ -29,22 +29,12 @@ fn count_images(bytes: &[u8], width: u32, height: u32) -> Result<usize, StackFau
 {
     let mut rest = bytes;
     let mut images = 0;
-    'images: loop {
-        match read_image(rest, width, height) {
-            Ok(more) => rest = more,
-            Err(fault) => {
-                return Err(StackFault {
-                    cause: fault.cause,
-                    image: images,
-                    byte: bytes.len() - rest.len() + fault.byte,
-                });
-            }
-        }
+    while !rest.is_empty() {
+        let start = bytes.len() - rest.len();
+        rest = read_image(rest, width, height).map_err(|fault| fault.in_image(images, start))?;
         images += 1;
-        if rest.is_empty() {
-            return Ok(images);
-        }
     }
+    Ok(images)
 }
 
 /// The sizes of a stack, where they are those of a grid.
@@ -59,21 +49,14 @@ fn grid_sizes(width: u32, height: u32, images: usize) -> Option<Sizes>
         ny: height,
         nz: images as u32,
     };
-    if sizes.is_grid() { Some(sizes) } else { None }
+    sizes.is_grid().then_some(sizes)
 }
 
 /// Reads the first header, then every image, and then asks whether there are too many.
 fn read_stack(bytes: &[u8]) -> Result<Stack<'_>, StackFault>
     ensures { MatchResult result (λ s. Shows s bytes.now) (λ f. FaultyBytes bytes.now f) }
 {
-    let header = match read_header(bytes) {
-        Ok(header) => header,
-        Err(fault) => return Err(StackFault {
-            cause: fault.cause,
-            image: 0,
-            byte: fault.byte,
-        }),
-    };
+    let header = read_header(bytes).map_err(|fault| fault.in_image(0, 0))?;
     let images = count_images(bytes, header.width, header.height)?;
     let Some(sizes) = grid_sizes(header.width, header.height, images) else {
         return Err(StackFault {

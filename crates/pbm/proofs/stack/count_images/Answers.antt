@@ -1,31 +1,28 @@
-use Rattle.std.proofs.Common.{◌≡◌, ℕ, ◌<◌, length, sym, refl, ◌∙◌, inl, arith}
-use Rattle.std.proofs.lemmas.List.{nil_from_length}
-use Rattle.std.proofs.lemmas.Bool.{eqb-true, eqb-false}
-use Rattle.pbm.proofs.Loop.{passed_more, passed_all, shorter, fault_in_image, next_faulty}
+use Rattle.std.proofs.Common.{◌≡◌, ◌<◌, length, subst, inl, rules}
+use Rattle.std.specs.Result.{MatchResult}
+use Rattle.std.proofs.lemmas.Result.{MatchResult-at_err, err_from_is_err_and}
+use Rattle.pbm.specs.Faults.{Begins, FaultyImage}
+use Rattle.pbm.proofs.Loop.{mapped, kept, FaultOfImage, passed_more, next_faulty}
 use Rattle.pbm.proofs.stack.count_images.Goals as goal
 
-above_0 : (n : ℕ) → (n ≡ 0 → ⊥) → 0 < n
-above_0 n h = omega arith
+pub returns-in_err-rest : goal.returns-in_err-rest
+returns-in_err-rest c =
+    let bytes = c.args.bytes.now in
+    let rest = c.loop-rest.rest.now in
+    let w = c.args.width in
+    let h = c.args.height in
+    let images = c.loop-rest.images in
+    let all : MatchResult c.map_err.result (λ more. Begins rest w h more.now) (FaultOfImage bytes rest w h images) =
+    mapped _ _ _ (FaultOfImage bytes rest w h images) c.read_image.result c.map_err.result c.read_image.ensures c.map_err.ensures.cases (λ e d q k. let same : e.cause ≡ d.cause = search rules in record { at = e.byte; image = search rules; byte = search rules; faulty = subst (λ x. FaultyImage rest w h x e.byte) same q }) in
+    let f = err_from_is_err_and c.from_residual.result c.from_residual.ensures.1 in
+    let left : 0 < length rest = search rules in
+    rw (f.1, f.2) (inl (next_faulty bytes rest c.requires.0 w h images _ c.requires.1 c.loop-rest.invariant left (MatchResult-at_err _ _ _ c.in_err-rest.was all)))
 
-pub overflow_add-result : goal.overflow_add-result
-overflow_add-result c = omega (arith, c.images.invariant.0.room, fault_in_image c.images.rest.now c.args.width c.args.height c.in-Err.fault.cause c.in-Err.fault.byte c.in-Err.ensures)
-
-pub returns-in-Err : goal.returns-in-Err
-returns-in-Err c =
-    inl (next_faulty c.args.bytes.now c.images.rest.now c.requires.0 c.args.width c.args.height _ c.in-Err.fault.byte c.requires.1 c.images.invariant.0 c.images.invariant.1 refl c.in-Err.ensures)
-
-pub returns-then-is_empty : goal.returns-then-is_empty
-returns-then-is_empty c =
-    let more = c.in-Ok.more.now in
-    let none = nil_from_length more (eqb-true (length more) 0 (sym c.is_empty.ensures ∙ c.if-is_empty.true)) in
-    passed_all c.args.bytes.now c.images.rest.now c.requires.0 more c.args.width c.args.height c.images.images c.requires.1 c.images.invariant.0 c.in-Ok.ensures none
-
-pub images-smaller : goal.images-smaller
-images-smaller c = omega (arith, shorter c.images.rest.now c.in-Ok.more.now c.args.width c.args.height c.in-Ok.ensures)
-
-pub images-preserved : goal.images-preserved
-images-preserved c =
-    let more = c.in-Ok.more.now in (
-      passed_more c.args.bytes.now c.images.rest.now more c.args.width c.args.height c.images.images c.images.invariant.0 c.in-Ok.ensures,
-      λ _. above_0 (length more) (eqb-false (length more) 0 (sym c.is_empty.ensures ∙ c.if-is_empty.false)),
-    )
+pub loop-rest-preserved : goal.loop-rest-preserved
+loop-rest-preserved c =
+    let bytes = c.args.bytes.now in
+    let rest = c.loop-rest.rest.now in
+    let w = c.args.width in
+    let h = c.args.height in
+    let more : Begins rest w h c.in_ok-rest.rest.now = kept _ _ _ c.read_image.result c.map_err.result c.in_ok-rest.rest c.read_image.ensures c.map_err.ensures.cases c.in_ok-rest.was in
+    passed_more bytes rest _ w h c.loop-rest.images c.loop-rest.invariant more
