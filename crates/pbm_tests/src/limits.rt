@@ -1,4 +1,5 @@
-use crate::support::{has_sizes, refused};
+use crate::support::{refused, sizes_of};
+use grid::Sizes;
 use pbm::Stack;
 use pictures::Picture;
 use std::alloc::{AllocError, Global};
@@ -23,11 +24,11 @@ fn stack_of(
 }
 
 /// The bytes are a stack of these sizes, and the last cell of its first row is marked.
-fn last_marked(rt: &impl Abort, bytes: &[u8], nx: u32, ny: u32, nz: u32) -> Result<(), Fail> {
+fn last_marked(rt: &impl Abort, bytes: &[u8], sizes: Sizes) -> Result<(), Fail> {
     let stack = Stack::new(bytes)?;
-    has_sizes(rt, &stack, nx, ny, nz);
-    assert!(rt; stack.marked((nx.saturating_sub(1), 0, 0)));
-    assert!(rt; !stack.marked((nx, 0, 0)));
+    assert_eq!(rt; stack.sizes(), sizes);
+    assert!(rt; stack.marked((sizes.nx.saturating_sub(1), 0, 0)));
+    assert!(rt; !stack.marked((sizes.nx, 0, 0)));
     Ok(())
 }
 
@@ -38,16 +39,12 @@ fn sizes_of_1023(rt: HostRuntime) -> Result<(), Fail> {
     last_marked(
         &rt,
         &stack_of(heap, 1, b"P4\n1023 1\n", 128, 255)?,
-        1023,
-        1,
-        1,
+        sizes_of(1023, 1, 1),
     )?;
     last_marked(
         &rt,
         &stack_of(heap, 1, b"P4\n1 1023\n", 1023, 255)?,
-        1,
-        1023,
-        1,
+        sizes_of(1, 1023, 1),
     )?;
     refused(
         &rt,
@@ -72,9 +69,7 @@ fn images_and_cells(rt: HostRuntime) -> Result<(), Fail> {
     last_marked(
         &rt,
         &stack_of(heap, 1023, b"P4\n1 1\n", 1, 128)?,
-        1,
-        1,
-        1023,
+        sizes_of(1, 1, 1023),
     )?;
     refused(
         &rt,
@@ -84,9 +79,7 @@ fn images_and_cells(rt: HostRuntime) -> Result<(), Fail> {
     last_marked(
         &rt,
         &stack_of(heap, 16, b"P4\n1023 1023\n", 130944, 255)?,
-        1023,
-        1023,
-        16,
+        sizes_of(1023, 1023, 16),
     )?;
     refused(
         &rt,

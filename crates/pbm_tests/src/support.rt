@@ -4,31 +4,21 @@ use pictures::Picture;
 use std::process::Abort;
 use std::test::Fail;
 
-/// The picture has these sizes.
-pub fn has_sizes(rt: &impl Abort, stack: &Stack<'_>, nx: u32, ny: u32, nz: u32) {
-    let sizes = stack.sizes();
-    assert_eq!(rt; (sizes.nx, sizes.ny, sizes.nz), (nx, ny, nz));
+/// A width, a height and a number of layers.
+pub fn sizes_of(nx: u32, ny: u32, nz: u32) -> Sizes {
+    Sizes { nx, ny, nz }
 }
 
 /// The bytes are a stack of these sizes, and of its cells, by their numbers, those are marked whose digit is 1.
-pub fn shows(
-    rt: &impl Abort,
-    bytes: &[u8],
-    nx: u32,
-    ny: u32,
-    nz: u32,
-    digits: &[u8],
-) -> Result<(), Fail> {
-    let sizes = Sizes { nx, ny, nz };
+pub fn shows(rt: &impl Abort, bytes: &[u8], sizes: Sizes, digits: &[u8]) -> Result<(), Fail> {
     let stack = Stack::new(bytes)?;
-    has_sizes(rt, &stack, nx, ny, nz);
-    let mut number: u32 = 0;
-    for digit in digits {
+    assert_eq!(rt; stack.sizes(), sizes);
+    let count = sizes.count_cells()?;
+    assert_eq!(rt; digits.len(), count as usize);
+    for (number, digit) in (0..count).zip(digits.iter()) {
         let place = sizes.place_of(number).ok_or("more digits than cells")?;
         assert_eq!(rt; stack.marked(place), *digit == b'1');
-        number = number.saturating_add(1);
     }
-    assert_eq!(rt; sizes.place_of(number), None);
     Ok(())
 }
 
