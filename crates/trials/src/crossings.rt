@@ -1,7 +1,7 @@
 //! Crossings against a scan of all places, and against the crossing by halving.
 use crate::dice::Dice;
-use anyhow::anyhow;
-use rules::{Block, Chess, Rule, Square, crossing_by_halving};
+use anyhow::{Context, anyhow};
+use rules::{Rule, crossing_by_halving};
 
 /// The lowest place at which the later point is no farther, by a look at every place; 1,023 if there is none.
 fn scanned<R: Rule>(rule: &R, axis: u8, earlier: u32, g: u64, later: u32, h: u64) -> Option<u32> {
@@ -16,9 +16,9 @@ fn scanned<R: Rule>(rule: &R, axis: u8, earlier: u32, g: u64, later: u32, h: u64
 /// Compares the crossings of two points by chance.
 fn compare_pair<R: Rule>(rule: &R, dice: &mut Dice) -> anyhow::Result<()> {
     let axis = 1 + dice.up_to(2) as u8;
-    let Some(most) = rule.most_carried(axis) else {
-        return Err(anyhow!("an axis without a ceiling"));
-    };
+    let most = rule
+        .most_carried(axis)
+        .context("an axis without a ceiling")?;
     let most = u32::try_from(most).unwrap_or(u32::MAX);
     let (g, h) = (dice.up_to(most) as u64, dice.up_to(most) as u64);
     let later = 1 + dice.up_to(1021);
@@ -33,24 +33,11 @@ fn compare_pair<R: Rule>(rule: &R, dice: &mut Dice) -> anyhow::Result<()> {
     Ok(())
 }
 
-/// Pairs of points by chance under each rule; how many pairs were compared.
-pub fn compare(dice: &mut Dice, rounds: u32) -> anyhow::Result<u64> {
-    let mut pairs = 0u64;
-    for _ in 0..rounds {
-        let (sx, sy, sz) = (dice.spacing(), dice.spacing(), dice.spacing());
-        let Ok(square) = Square::new(sx, sy, sz) else {
-            return Err(anyhow!("square was refused"));
-        };
-        let Ok(block) = Block::new(sx, sy, sz) else {
-            return Err(anyhow!("block was refused"));
-        };
-        let Ok(chess) = Chess::new(sx, sy, sz) else {
-            return Err(anyhow!("chess was refused"));
-        };
-        compare_pair(&square, dice)?;
-        compare_pair(&block, dice)?;
-        compare_pair(&chess, dice)?;
-        pairs = pairs.wrapping_add(3);
-    }
-    Ok(pairs)
+/// A pair of points by chance under each rule; how many pairs were compared.
+pub fn compare_round(dice: &mut Dice) -> anyhow::Result<u64> {
+    let (square, block, chess) = dice.rules()?;
+    compare_pair(&square, dice)?;
+    compare_pair(&block, dice)?;
+    compare_pair(&chess, dice)?;
+    Ok(3)
 }

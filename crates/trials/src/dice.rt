@@ -1,7 +1,9 @@
 //! Numbers by chance, the same for the same seed.
 ghost use Rattle.std.specs.Prelude.{◌<◌, ◌≤◌};
 
+use anyhow::anyhow;
 use grid::Sizes;
+use rules::{Block, Chess, Square};
 use std::alloc::{AllocError, Global};
 
 /// A generator of numbers (xorshift).
@@ -59,6 +61,15 @@ impl Dice {
         } else {
             1 + self.up_to(9_999)
         }
+    }
+
+    /// The three rules, over the same spacings.
+    pub fn rules(&mut self) -> anyhow::Result<(Square, Block, Chess)> {
+        let (sx, sy, sz) = (self.spacing(), self.spacing(), self.spacing());
+        let square = Square::new(sx, sy, sz).map_err(|_| anyhow!("square was refused"))?;
+        let block = Block::new(sx, sy, sz).map_err(|_| anyhow!("block was refused"))?;
+        let chess = Chess::new(sx, sy, sz).map_err(|_| anyhow!("chess was refused"))?;
+        Ok((square, block, chess))
     }
 
     /// So many bytes, 1 by a chance of `percent` in a hundred and else 0.

@@ -4,11 +4,13 @@
 mod crossings;
 mod dice;
 mod images;
+mod rounds;
 mod signs;
 mod whole_fields;
 
 use anyhow::anyhow;
 use dice::Dice;
+use rounds::compare;
 use std::io::Read;
 
 /// The two numbers of the input: the seed and the rounds.
@@ -26,13 +28,17 @@ fn run(rt: &HostRuntime) -> anyhow::Result<()> {
     let (seed, rounds) = read_numbers(rt)?;
     let mut dice = Dice::new(seed);
     let heap = rt.alloc();
-    let cells = whole_fields::compare(heap, &mut dice, rounds)?;
+    let cells = compare(
+        &mut dice,
+        rounds,
+        |dice| whole_fields::compare_round(heap, dice),
+    )?;
     println!(rt; "fields: {rounds} pictures under each rule, {cells} cells, all agree")?;
-    let numbers = signs::compare(heap, &mut dice, rounds)?;
+    let numbers = compare(&mut dice, rounds, |dice| signs::compare_round(heap, dice))?;
     println!(rt; "signed fields: {rounds} pictures under each rule, {numbers} numbers, all agree")?;
-    let crossings = crossings::compare(&mut dice, rounds)?;
+    let crossings = compare(&mut dice, rounds, crossings::compare_round)?;
     println!(rt; "crossings: {crossings} pairs of points, all agree")?;
-    let bits = images::compare(heap, &mut dice, rounds)?;
+    let bits = compare(&mut dice, rounds, |dice| images::compare_round(heap, dice))?;
     println!(rt; "stacks: {rounds} stacks, {bits} cells, all agree")?;
     Ok(())
 }

@@ -1,11 +1,12 @@
 //! Finished fields against the exhaustive search.
 use crate::dice::Dice;
+use crate::rounds::{Comparison, compare_picture};
 use anyhow::anyhow;
 use exhaustive::search_field;
-use grid::{Cell, Refusal, Sizes};
-use pictures::{Grey, Picture, has_mark};
+use grid::{Cell, Refusal};
+use pictures::{Picture, has_mark};
 use replay::find_field;
-use rules::{Block, Chess, Rule, Square};
+use rules::Rule;
 use std::alloc::Global;
 
 /// The distance at a place from another, by the rule's public answers.
@@ -33,72 +34,41 @@ fn is_right<R: Rule, P: Picture>(rule: &R, picture: &P, number: u32, cell: Cell)
         && cell.marked == picture.marked(at)
 }
 
-/// Compares the field of a picture with the exhaustive search, cell by cell; how many cells there were.
-fn compare_field<R: Rule + Copy + Drop, P: Picture>(
-    heap: Global,
-    rule: R,
-    picture: &P,
-) -> anyhow::Result<u64> {
-    let Ok(count) = picture.sizes().count_cells() else {
-        return Err(anyhow!("a picture without a grid"));
-    };
-    let blank = Cell::painted(false, 0);
-    let mut found = vec![in heap; blank; count as usize]?;
-    let mut searched = vec![in heap; blank; count as usize]?;
-    match find_field(rule, picture, &mut found) {
-        Ok(_) => {}
-        Err(kept) => {
+/// The field of a picture against the exhaustive search, cell by cell.
+struct WholeFields;
+
+impl Comparison for WholeFields {
+    fn compare<R: Rule + Copy + Drop, P: Picture>(
+        heap: Global,
+        rule: R,
+        picture: &P,
+    ) -> anyhow::Result<u64> {
+        let count = picture
+            .sizes()
+            .count_cells()
+            .map_err(|_| anyhow!("a picture without a grid"))?;
+        let blank = Cell::painted(false, 0);
+        let mut found = vec![in heap; blank; count as usize]?;
+        let mut searched = vec![in heap; blank; count as usize]?;
+        if let Err(kept) = find_field(rule, picture, &mut found) {
             if kept.refusal == Refusal::NoMark && !has_mark(picture) {
                 return Ok(0);
             }
             return Err(anyhow!("a field was refused"));
         }
-    }
-    let Ok(()) = search_field(&rule, picture, &mut searched) else {
-        return Err(anyhow!("a search was refused"));
-    };
-    let mut number: u32 = 0;
-    for (a, b) in found.iter().zip(searched.iter()) {
-        if a.value != b.value || !is_right(&rule, picture, number, *a) {
-            return Err(anyhow!("a field differs from the exhaustive search"));
+        search_field(&rule, picture, &mut searched).map_err(|_| anyhow!("a search was refused"))?;
+        for (number, (a, b)) in (0..count).zip(found.iter().zip(searched.iter())) {
+            if a.value != b.value || !is_right(&rule, picture, number, *a) {
+                return Err(anyhow!("a field differs from the exhaustive search"));
+            }
         }
-        number = number.wrapping_add(1);
+        Ok(count as u64)
     }
-    Ok(count as u64)
 }
 
 /// A picture by chance under each rule; how many cells were compared.
-fn compare_round(heap: Global, dice: &mut Dice) -> anyhow::Result<u64> {
+pub fn compare_round(heap: Global, dice: &mut Dice) -> anyhow::Result<u64> {
     let sizes = dice.sizes();
-    let Ok(count) = sizes.count_cells() else {
-        return Err(anyhow!("sizes of no grid"));
-    };
     let percent = dice.up_to(40);
-    let bytes = dice.bytes(heap, count as usize, percent)?;
-    let Ok(picture) = Grey::new(sizes, 1, &bytes) else {
-        return Err(anyhow!("a grey picture was refused"));
-    };
-    let (sx, sy, sz) = (dice.spacing(), dice.spacing(), dice.spacing());
-    let Ok(square) = Square::new(sx, sy, sz) else {
-        return Err(anyhow!("square was refused"));
-    };
-    let Ok(block) = Block::new(sx, sy, sz) else {
-        return Err(anyhow!("block was refused"));
-    };
-    let Ok(chess) = Chess::new(sx, sy, sz) else {
-        return Err(anyhow!("chess was refused"));
-    };
-    let one = compare_field(heap, square, &picture)?;
-    let two = compare_field(heap, block, &picture)?;
-    let three = compare_field(heap, chess, &picture)?;
-    Ok(one.wrapping_add(two).wrapping_add(three))
-}
-
-/// So many pictures; how many cells were compared.
-pub fn compare(heap: Global, dice: &mut Dice, rounds: u32) -> anyhow::Result<u64> {
-    let mut cells = 0u64;
-    for _ in 0..rounds {
-        cells = cells.wrapping_add(compare_round(heap, dice)?);
-    }
-    Ok(cells)
+    compare_picture::<WholeFields>(heap, dice, sizes, percent)
 }
