@@ -1,16 +1,15 @@
 -- Where the bytes of an image lie in a stack.
-use Rattle.std.proofs.Common.{◌≡◌, ℕ, zero, suc, ◌+◌, ◌*◌, ◌/◌, ◌<◌, Bool, true, ◌&&◌, ltb, List, [], ◌∷◌, ◌++◌, length, get_or, sym, ap, ◌∙◌, ⊎_elim, suc-mul, mul_comm, zero-mul, arith}
+use Rattle.std.proofs.Common.{◌≡◌, ℕ, zero, suc, ◌+◌, ◌*◌, ◌/◌, ◌<◌, true, ◌&&◌, List, [], ◌∷◌, ◌++◌, length, get_or, sym, ap, subst, ◌∙◌, ⊎_elim, suc-mul, mul_comm, zero-mul, arith}
 use mathlib.Core.Path.{fun_ext}
 use Rattle.std.proofs.lemmas.Nat.{mul-add-lt, mul-le}
 use Rattle.std.proofs.lemmas.List.{length-append, get_or_append_left, get_or-append-add}
-use Rattle.std.proofs.lemmas.Bool.{cases_lt, lt-ltb}
+use Rattle.std.proofs.lemmas.Bool.{cases_lt}
 use Rattle.grid.specs.declared.sizes.Sizes.{Sizes}
 use Rattle.grid.specs.Geometry.{Place, inside}
-use Rattle.grid.specs.Grids.{as_grid_keeps_grids}
 use Rattle.grid.proofs.Places.{below_from_inside}
 use Rattle.pictures.proofs.Differing.{and_same}
 use Rattle.pbm.specs.Form.{header, raster_bytes, row_bytes, images_of, AllFull, IsStack}
-use Rattle.pbm.specs.Marks.{bit_is_set, raster_place, raster_cells, image_bytes, stack_cells, byte_at, bit_at, stack_extent, stack_marks}
+use Rattle.pbm.specs.Marks.{bit_is_set, raster_place, raster_cells, image_bytes, stack_cells, byte_at, stack_marks}
 use Rattle.pbm.specs.Promises.{LiesOver, Shows}
 use Rattle.pbm.specs.declared.stack.Stack.{Stack}
 
@@ -78,32 +77,45 @@ cells_of_rasters : (s : Sizes) (bytes : List ℕ) → IsStack bytes s → (raste
 cells_of_rasters s bytes form rasters full whole =
     fun_ext (λ at. and_same (inside s at) _ _ (λ h. ap (λ n. bit_is_set n at.0) (byte_of_raster s at h bytes form rasters full whole)))
 
--- the marks by given sizes
-marks_by : Stack → Sizes → Place → Bool
-marks_by s n at = inside n at && bit_at s n at
+module _ (s : Stack) (o : LiesOver s s.bytes.now) where
+  held_marks : (at : Place) → stack_marks s at ≡ stack_cells s.grid.sizes s.bytes.now at
+  held_marks at =
+      let n = s.grid.sizes in
+      let r = raster_place n.nx at.0 at.1 in
+      let stride : s.stride ≡ image_bytes n = o.stride ∙ ap (λ k. k + raster_bytes n.nx n.ny) o.skip in
+      let same : byte_at s at ≡ place_of_byte n at = ap (λ k. at.2 * k + (s.skip + r)) stride ∙ ap (λ k. at.2 * image_bytes n + (k + r)) o.skip in
+      ap (λ k. inside n at && bit_is_set (get_or s.bytes.now k 0) at.0) same
 
-held_marks : (s : Stack) (at : Place) → LiesOver s s.bytes.now → marks_by s s.sizes at ≡ stack_cells s.sizes s.bytes.now at
-unfolding marks_by
-held_marks s at o =
-    let n = s.sizes in
-    let bytes = s.bytes.now in
-    let H = length (header n.nx n.ny) in
-    let r = raster_place n.nx at.0 at.1 in
-    let stride : s.stride ≡ image_bytes n = o.stride ∙ ap (λ k. k + raster_bytes n.nx n.ny) o.skip in
-    let same : byte_at s n at ≡ place_of_byte n at = ap (λ k. at.2 * k + (s.skip + r)) stride ∙ ap (λ k. at.2 * image_bytes n + (k + r)) o.skip in
-    and_same (inside n at) _ _
-    (λ h.
-    ap (λ k. ltb k (length bytes) && bit_is_set (get_or bytes k 0) at.0) same
-    ∙ ap (λ t. t && bit_is_set (get_or bytes (place_of_byte n at) 0) at.0) (lt-ltb (place_of_byte n at) (length bytes) (byte_there n at h bytes o.form)))
+  pub shows : Shows s s.bytes.now
+  shows =
+      let bits : stack_marks s ≡ stack_cells s.grid.sizes s.bytes.now = fun_ext held_marks in
+      record {
+        lies_over = o;
+        bits = bits;
+        marks = λ rasters full whole. bits ∙ cells_of_rasters s.grid.sizes s.bytes.now o.form rasters full whole;
+      }
 
-pub shows : (s : Stack) → LiesOver s s.bytes.now → Shows s s.bytes.now
-unfolding marks_by
-shows s o =
-    let same : stack_extent s ≡ s.sizes = as_grid_keeps_grids s.sizes o.grid in
-    let bits : stack_marks s ≡ stack_cells s.sizes s.bytes.now = fun_ext (λ at. ap (λ n. marks_by s n at) same ∙ held_marks s at o) in
-    record {
-      lies_over = o;
-      extent = same;
-      bits = bits;
-      marks = λ rasters full whole. bits ∙ cells_of_rasters s.sizes s.bytes.now o.form rasters full whole;
-    }
+-- the images of a stack fill it
+pub filled : (bytes : List ℕ) (s : Sizes) → IsStack bytes s → length bytes ≡ s.nz * image_bytes s
+filled bytes s form = ap length form.whole ∙ images_length s.nx s.ny form.rasters form.full ∙ ap (λ n. n * image_bytes s) form.count
+
+-- the bit of a place of the grid lies among the bytes
+pub bit_lies : (s : Stack) (at : Place) → inside s.grid.sizes at ≡ true → byte_at s at < length s.bytes.now
+bit_lies s at within =
+    let b = below_from_inside s.grid.sizes at within in
+    let r = raster_place s.grid.sizes.nx at.0 at.1 in
+    let whole = mul-add-lt at.2 s.stride (s.skip + r) s.grid.sizes.nz b.z (omega (arith, in_raster s.grid.sizes at within, s.rows_follow)) in
+    omega (arith, whole, s.one_image_a_layer, mul_comm s.grid.sizes.nz s.stride)
+
+-- what is known of a stack that was read by its sizes n
+module _ (bytes : List ℕ) (n : Sizes) (form : IsStack bytes n) (skip stride : ℕ) (skips : skip ≡ length (header n.nx n.ny)) (strides : stride ≡ skip + raster_bytes n.nx n.ny) where
+  pub fills : (m : Sizes) → m ≡ n → length bytes ≡ m.nz * stride
+  fills m same =
+      let whole : stride ≡ image_bytes n = strides ∙ ap (λ k. k + raster_bytes n.nx n.ny) skips in
+      subst (λ (q : Sizes). length bytes ≡ q.nz * stride) (sym same) (filled bytes n form ∙ ap (λ k. n.nz * k) (sym whole))
+
+  pub follows : (m : Sizes) → m ≡ n → stride ≡ skip + raster_bytes m.nx m.ny
+  follows m same = subst (λ (q : Sizes). stride ≡ skip + raster_bytes q.nx q.ny) (sym same) strides
+
+  pub skipped : (m : Sizes) → m ≡ n → skip ≡ length (header m.nx m.ny)
+  skipped m same = subst (λ (q : Sizes). skip ≡ length (header q.nx q.ny)) (sym same) skips

@@ -168,11 +168,11 @@ module _ (bytes : List ℕ) where
   Read r = MatchResult r (λ s. Shows s bytes) (λ f. FaultyBytes bytes f)
 
   pub accepts : (r : Result Stack StackFault) → Read r → AcceptsStacks bytes r
-  accepts (Ok x) c s form grid = c.extent ∙ same_sizes bytes s form x.sizes c.lies_over.form
+  accepts (Ok x) c s form grid = same_sizes bytes s form x.grid.sizes c.lies_over.form
   accepts (Err f) c s form grid = no_fault bytes s form grid f c
 
   pub tells : (r : Result Stack StackFault) → Read r → TellsFault bytes r
-  tells (Ok x) c f bad = absurd (no_fault bytes x.sizes c.lies_over.form c.lies_over.grid f bad)
+  tells (Ok x) c f bad = absurd (no_fault bytes x.grid.sizes c.lies_over.form c.lies_over.grid f bad)
   tells (Err g) c f bad = ap Err (same_fault bytes g f c bad)
 
   pub within : (r : Result Stack StackFault) → Read r → FaultWithin bytes r

@@ -1,8 +1,8 @@
 -- What a stack of images marks.
-use Rattle.std.specs.Prelude.{ℕ, ◌+◌, ◌-◌, ◌*◌, ◌/◌, ◌%◌, ◌^◌, Bool, ◌&&◌, List, [], length, ◌==◌, nat_lt, slice_index, slice_index_or}
+use Rattle.std.specs.Prelude.{ℕ, ◌+◌, ◌-◌, ◌*◌, ◌/◌, ◌%◌, ◌^◌, Bool, ◌&&◌, List, [], length, ◌==◌, slice_index, slice_index_or}
 use Rattle.grid.specs.declared.sizes.Sizes.{Sizes}
-use Rattle.grid.specs.Geometry.{Place, as_grid, inside}
-use Rattle.pictures.specs.Laws.{Lawful, lawful_as_grid}
+use Rattle.grid.specs.Geometry.{Place, inside}
+use Rattle.pictures.specs.Laws.{Lawful, lawful_within}
 use Rattle.pbm.specs.Form.{header, row_bytes, raster_bytes}
 use Rattle.pbm.specs.declared.stack.Stack.{Stack}
 
@@ -26,20 +26,19 @@ image_bytes s = length (header s.nx s.ny) + raster_bytes s.nx s.ny
 abbrev pub stack_cells : Sizes → List ℕ → Place → Bool
 stack_cells s bytes at = inside s at && bit_is_set (slice_index bytes (at.2 * image_bytes s + (length (header s.nx s.ny) + raster_place s.nx at.0 at.1))) at.0
 
--- The meaning of any value of the type, also of one that was not made from a stack: sizes that are no grid's are
--- those of one cell, and a byte that is not there has no set bit.
+-- what a stack of the type shows
 abbrev pub stack_extent : Stack → Sizes
-stack_extent s = as_grid s.sizes
+stack_extent s = s.grid.sizes
 
--- the byte that has the bit of a place of a grid of these sizes
-abbrev pub byte_at : Stack → Sizes → Place → ℕ
-byte_at s n at = at.2 * s.stride + (s.skip + raster_place n.nx at.0 at.1)
+-- the byte that has the bit of a place of the grid
+abbrev pub byte_at : Stack → Place → ℕ
+byte_at s at = at.2 * s.stride + (s.skip + raster_place s.grid.sizes.nx at.0 at.1)
 
-abbrev pub bit_at : Stack → Sizes → Place → Bool
-bit_at s n at = nat_lt (byte_at s n at) (length s.bytes.now) && bit_is_set (slice_index s.bytes.now (byte_at s n at)) at.0
+abbrev pub bit_at : Stack → Place → Bool
+bit_at s at = bit_is_set (slice_index s.bytes.now (byte_at s at)) at.0
 
 abbrev pub stack_marks : Stack → Place → Bool
-stack_marks s at = inside (stack_extent s) at && bit_at s (stack_extent s) at
+stack_marks s at = inside (stack_extent s) at && bit_at s at
 
 pub stack_lawful : Lawful stack_extent stack_marks
-stack_lawful = lawful_as_grid (λ s. s.sizes) (λ s at. bit_at s (stack_extent s) at)
+stack_lawful = lawful_within stack_extent bit_at (λ s. s.grid.is)

@@ -11,18 +11,17 @@ use Rattle.pbm.specs.declared.stack.Stack.{Stack}
 -- the stack lies over these bytes, which are a stack of its sizes
 pub record LiesOver (s : Stack) (bytes : List ℕ) : Type 0 where
   pub over : s.bytes.now ≡ bytes
-  pub form : IsStack bytes s.sizes
-  pub grid : IsGrid s.sizes
-  pub skip : s.skip ≡ length (header s.sizes.nx s.sizes.ny)
-  pub stride : s.stride ≡ s.skip + raster_bytes s.sizes.nx s.sizes.ny
+  pub form : IsStack bytes s.grid.sizes
+  pub grid : IsGrid s.grid.sizes
+  pub skip : s.skip ≡ length (header s.grid.sizes.nx s.grid.sizes.ny)
+  pub stride : s.stride ≡ s.skip + raster_bytes s.grid.sizes.nx s.grid.sizes.ny
 
--- A stack that was made from bytes: its extent is what they are a stack of, and it marks just the cells whose bit is
+-- A stack that was made from bytes: they are a stack of its extent, and it marks just the cells whose bit is
 -- set, by their places in the bytes, and so by whatever rasters the bytes are made of.
 pub record Shows (s : Stack) (bytes : List ℕ) : Type 0 where
   pub lies_over : LiesOver s bytes
-  pub extent : stack_extent s ≡ s.sizes
-  pub bits : stack_marks s ≡ stack_cells s.sizes bytes
-  pub marks : (rasters : List (List ℕ)) → AllFull s.sizes.nx s.sizes.ny rasters → bytes ≡ images_of s.sizes.nx s.sizes.ny rasters → stack_marks s ≡ raster_cells s.sizes rasters
+  pub bits : stack_marks s ≡ stack_cells s.grid.sizes bytes
+  pub marks : (rasters : List (List ℕ)) → AllFull s.grid.sizes.nx s.grid.sizes.ny rasters → bytes ≡ images_of s.grid.sizes.nx s.grid.sizes.ny rasters → stack_marks s ≡ raster_cells s.grid.sizes rasters
 
 -- bytes that are a stack of a grid's sizes are accepted, with these sizes
 abbrev pub AcceptsStacks : List ℕ → Result Stack StackFault → Type 0

@@ -3,6 +3,7 @@
 
 mod faults;
 mod images;
+mod reading;
 mod stack;
 
 pub use faults::{Cause, StackFault};

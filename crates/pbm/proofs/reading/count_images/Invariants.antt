@@ -1,6 +1,6 @@
 use Rattle.std.proofs.Common.{length}
 use Rattle.pbm.proofs.Loop.{Passed}
-use Rattle.pbm.proofs.stack.count_images.Given as goal
+use Rattle.pbm.proofs.reading.count_images.Given as goal
 
 abbrev pub invariant-loop-rest : goal.invariant-loop-rest
 invariant-loop-rest l = Passed l.bytes l.rest l.width l.height l.images

@@ -3,7 +3,7 @@ use Rattle.std.specs.Result.{MatchResult}
 use Rattle.std.proofs.lemmas.Result.{MatchResult-at_err, err_from_is_err_and}
 use Rattle.pbm.specs.Faults.{Begins, FaultyImage}
 use Rattle.pbm.proofs.Loop.{mapped, kept, FaultOfImage, passed_more, next_faulty}
-use Rattle.pbm.proofs.stack.count_images.Goals as goal
+use Rattle.pbm.proofs.reading.count_images.Goals as goal
 
 pub returns-in_err-rest : goal.returns-in_err-rest
 returns-in_err-rest c =
