@@ -5,12 +5,13 @@ use Rattle.numerals.proofs.Reading.{reads_same}
 use Rattle.job_text.specs.declared.columns.Column.{Column}
 use Rattle.job_text.specs.declared.columns.Column.TheVariants.{Rule, Sx, Sy, Sz}
 use Rattle.job_text.specs.declared.columns.Order.{Order}
-use Rattle.job_text.specs.declared.settings.RuleName.{RuleName}
-use Rattle.job_text.specs.declared.settings.RuleName.TheVariants.{Square, Block, Chess}
+use Rattle.rules.specs.declared.name.RuleName.{RuleName}
+use Rattle.rules.specs.declared.name.RuleName.TheVariants.{Square, Block, Chess}
 use Rattle.job_text.specs.declared.settings.Settings.{Settings}
-use Rattle.job_text.specs.Jobs.{EachOnce, rule_name, value_text, ValueFits, Values, ReadsWord, ReadsSetting, NoSetting, SameBut}
+use Rattle.rules.specs.Names.{rule_word}
+use Rattle.job_text.specs.Jobs.{EachOnce, value_text, ValueFits, Values, ReadsWord, ReadsSetting, NoSetting, SameBut}
 
-rule_same : (m n : RuleName) (e : ℕ) (r t : List ℕ) → rule_name m ++ e ∷ r ≡ rule_name n ++ e ∷ t → r ≡ t
+rule_same : (m n : RuleName) (e : ℕ) (r t : List ℕ) → rule_word m ++ e ∷ r ≡ rule_word n ++ e ∷ t → r ≡ t
 rule_same Square Square e r t h = cc
 rule_same Square Block e r t h = let z : ◌≡◌ {A = ℕ} 115 98 = cc in absurd (omega arith)
 rule_same Square Chess e r t h = let z : ◌≡◌ {A = ℕ} 115 99 = cc in absurd (omega arith)
@@ -34,15 +35,15 @@ kept_other Rule Rule s u h n = absurd (n refl)
 kept_other Rule Sx s u h n = ap numeral (sym h.0)
 kept_other Rule Sy s u h n = ap numeral (sym h.1)
 kept_other Rule Sz s u h n = ap numeral (sym h.2)
-kept_other Sx Rule s u h n = ap rule_name (sym h.0)
+kept_other Sx Rule s u h n = ap rule_word (sym h.0)
 kept_other Sx Sx s u h n = absurd (n refl)
 kept_other Sx Sy s u h n = ap numeral (sym h.1)
 kept_other Sx Sz s u h n = ap numeral (sym h.2)
-kept_other Sy Rule s u h n = ap rule_name (sym h.0)
+kept_other Sy Rule s u h n = ap rule_word (sym h.0)
 kept_other Sy Sx s u h n = ap numeral (sym h.1)
 kept_other Sy Sy s u h n = absurd (n refl)
 kept_other Sy Sz s u h n = ap numeral (sym h.2)
-kept_other Sz Rule s u h n = ap rule_name (sym h.0)
+kept_other Sz Rule s u h n = ap rule_word (sym h.0)
 kept_other Sz Sx s u h n = ap numeral (sym h.1)
 kept_other Sz Sy s u h n = ap numeral (sym h.2)
 kept_other Sz Sz s u h n = absurd (n refl)

@@ -8,8 +8,7 @@ use Rattle.job_text.specs.declared.columns.Column.TheVariants.{Rule, Sx, Sy, Sz}
 use Rattle.job_text.specs.declared.columns.Order.{Order}
 use Rattle.job_text.specs.declared.job.JobFault.{JobFault}
 use Rattle.job_text.specs.declared.job.JobFault.TheVariants as fault
-use Rattle.job_text.specs.declared.settings.RuleName.{RuleName}
-use Rattle.job_text.specs.declared.settings.RuleName.TheVariants.{Square, Block, Chess}
+use Rattle.rules.specs.Names.{rule_word}
 use Rattle.job_text.specs.declared.settings.Settings.{Settings}
 
 abbrev pub column_name : Column → List ℕ
@@ -17,11 +16,6 @@ column_name Rule = codes "rule"
 column_name Sx = codes "sx"
 column_name Sy = codes "sy"
 column_name Sz = codes "sz"
-
-abbrev pub rule_name : RuleName → List ℕ
-rule_name Square = codes "square"
-rule_name Block = codes "block"
-rule_name Chess = codes "chess"
 
 abbrev pub columns : Order → List Column
 columns o = o.first ∷ o.second ∷ o.third ∷ o.fourth ∷ []
@@ -42,7 +36,7 @@ pub record Names (text : List ℕ) (o : Order) (rest : List ℕ) : Type 0 where
 
 -- how the value of a column is written: a rule by its name, a spacing in decimal digits with no zero in front
 abbrev pub value_text : Settings → Column → List ℕ
-value_text s Rule = rule_name s.rule
+value_text s Rule = rule_word s.rule
 value_text s Sx = numeral s.sx
 value_text s Sy = numeral s.sy
 value_text s Sz = numeral s.sz

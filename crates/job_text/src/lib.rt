@@ -8,4 +8,5 @@ mod settings;
 
 pub use columns::{Column, Order};
 pub use job::{Job, JobFault, MOST_BYTES, read_job};
-pub use settings::{RuleName, Settings};
+pub use rules::RuleName;
+pub use settings::Settings;

@@ -1,19 +1,13 @@
 // The second line of a job text: the values of the columns.
 ghost use Rattle.std.specs.Prelude.{◌≡◌, ℕ, List, MatchOption};
 ghost use Rattle.numerals.specs.Numerals.{Reads, Unread, ending_byte};
-ghost use Rattle.job_text.specs.Jobs.{EachOnce, rule_name, NoWord, ReadsWord, ReadsSetting, NoSetting, Values};
+ghost use Rattle.rules.specs.Names.{rule_word};
+ghost use Rattle.job_text.specs.Jobs.{EachOnce, NoWord, ReadsWord, ReadsSetting, NoSetting, Values};
 
 use crate::columns::{Column, Order};
 use crate::names::{Named, read_name};
 use numerals::{Ending, read_number};
-
-/// A distance rule by its name.
-#[derive(Clone, Copy, PartialEq, Eq, Debug)]
-pub enum RuleName {
-    Square,
-    Block,
-    Chess,
-}
+use rules::RuleName;
 
 /// What a job text asks for: a rule, and the spacings of the three axes.
 #[derive(Clone, Copy)]
@@ -25,20 +19,16 @@ pub struct Settings {
 }
 
 impl Named for RuleName {
-    ghost word_of = { rule_name };
+    ghost word_of = { rule_word };
 
     fn word(self) -> &'static [u8] {
-        match self {
-            RuleName::Square => b"square",
-            RuleName::Block => b"block",
-            RuleName::Chess => b"chess",
-        }
+        RuleName::word(self).as_bytes()
     }
 }
 
 /// The rule whose name the text begins with, and what comes after the name's ending.
 fn read_rule(text: &[u8], ending: Ending) -> Option<(RuleName, &[u8])>
-    ensures { MatchOption result ((n : RuleName) → NoWord text.now (rule_name n) (ending_byte ending)) (λ p. ReadsWord text.now (rule_name p.0) (ending_byte ending) p.1.now) }
+    ensures { MatchOption result ((n : RuleName) → NoWord text.now (rule_word n) (ending_byte ending)) (λ p. ReadsWord text.now (rule_word p.0) (ending_byte ending) p.1.now) }
 {
     let rules = [RuleName::Square, RuleName::Block, RuleName::Chess];
     read_name(text, &rules, ending)

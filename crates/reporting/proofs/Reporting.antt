@@ -24,7 +24,7 @@ use Rattle.rules.specs.Formulas.{HasSpacings}
 use Rattle.job_text.specs.declared.columns.Column.TheVariants.{Sx, Sy, Sz}
 use Rattle.reporting.specs.declared.faults.ReportError.{ReportError}
 use Rattle.reporting.specs.declared.faults.ReportError.TheVariants.{Fault, NoMemory}
-use Rattle.job_text.specs.declared.settings.RuleName.{RuleName}
+use Rattle.rules.specs.declared.name.RuleName.{RuleName}
 use Rattle.job_text.specs.declared.settings.Settings.{Settings}
 use Rattle.job_text.specs.Jobs.{IsJob}
 use Rattle.reporting.specs.Texts.{NoPoint, LacksPoint}

@@ -18,8 +18,8 @@ use Rattle.reporting.specs.declared.faults.ReportError.{ReportError}
 use Rattle.reporting.specs.declared.faults.ReportError.TheVariants.{Fault, NoMemory}
 use Rattle.reporting.specs.declared.faults.ReportFault.{ReportFault}
 use Rattle.reporting.specs.declared.faults.ReportFault.TheVariants.{Job, Stack, LargeStack, Field}
-use Rattle.job_text.specs.declared.settings.RuleName.{RuleName}
-use Rattle.job_text.specs.declared.settings.RuleName.TheVariants.{Square, Block, Chess}
+use Rattle.rules.specs.declared.name.RuleName.{RuleName}
+use Rattle.rules.specs.declared.name.RuleName.TheVariants.{Square, Block, Chess}
 use Rattle.job_text.specs.declared.settings.Settings.{Settings}
 use Rattle.job_text.specs.Jobs.{IsJob, FaultyJob}
 use Rattle.reporting.specs.Texts.{PrintsField}

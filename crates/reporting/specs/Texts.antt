@@ -8,8 +8,8 @@ use Rattle.grid.specs.declared.refusal.Refusal.TheVariants.{NoMark}
 use Rattle.reporting.specs.declared.faults.ReportError.{ReportError}
 use Rattle.reporting.specs.declared.faults.ReportError.TheVariants.{Fault, NoMemory}
 use Rattle.reporting.specs.declared.faults.ReportFault.TheVariants.{Field}
-use Rattle.job_text.specs.declared.settings.RuleName.{RuleName}
-use Rattle.job_text.specs.declared.settings.RuleName.TheVariants.{Square, Block, Chess}
+use Rattle.rules.specs.declared.name.RuleName.{RuleName}
+use Rattle.rules.specs.declared.name.RuleName.TheVariants.{Square, Block, Chess}
 use Rattle.job_text.specs.Lines.{line_of}
 
 -- the largest of the numbers up to n whose square is at most v

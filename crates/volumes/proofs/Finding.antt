@@ -6,7 +6,7 @@ use Rattle.grid.specs.Geometry.{Place}
 use Rattle.pictures.specs.Numbered.{marks_by_number}
 use Rattle.rules.specs.declared.spacings.Spacings.{Spacings}
 use Rattle.rules.specs.Formulas.{HasSpacings}
-use Rattle.job_text.specs.declared.settings.RuleName.{RuleName}
+use Rattle.rules.specs.declared.name.RuleName.{RuleName}
 use Rattle.job_text.specs.declared.settings.Settings.{Settings}
 use Rattle.reporting.specs.Reports.{near_of}
 use Rattle.volumes.specs.declared.field.VolumeFault.{VolumeFault}

@@ -5,7 +5,7 @@ use Rattle.rules.specs.Ranges.{IsSpacing}
 use Rattle.job_text.specs.Jobs.{rule_name}
 use Rattle.job_text.specs.declared.columns.Column.{Column}
 use Rattle.job_text.specs.declared.columns.Column.TheVariants.{Rule, Sx, Sy, Sz}
-use Rattle.job_text.specs.declared.settings.RuleName.{RuleName}
+use Rattle.rules.specs.declared.name.RuleName.{RuleName}
 use Rattle.job_text.specs.declared.settings.Settings.{Settings}
 
 -- the word is the name of the rule

@@ -1,5 +1,5 @@
 use Rattle.std.proofs.Common.{refl}
-use Rattle.job_text.specs.declared.settings.RuleName.TheVariants.{Square}
+use Rattle.rules.specs.declared.name.RuleName.TheVariants.{Square}
 use Rattle.job_text.proofs.Words.{option_weaker}
 use Rattle.job_text.proofs.ValueLines.{no_second_value, no_third_value, no_fourth_value, values_from_readings, blank_fits}
 use Rattle.job_text.proofs.settings.read_values.Goals as goal

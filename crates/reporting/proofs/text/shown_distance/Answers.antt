@@ -1,5 +1,5 @@
 use Rattle.std.proofs.Common.{sym, ap, ◌∙◌}
-use Rattle.job_text.specs.declared.settings.RuleName.{RuleName}
+use Rattle.rules.specs.declared.name.RuleName.{RuleName}
 use Rattle.reporting.specs.Texts.{shown_distance}
 use Rattle.reporting.proofs.Roots.{root_between}
 use Rattle.reporting.proofs.text.shown_distance.Goals as goal
