@@ -1,5 +1,5 @@
 //! What the program is asked for: a rule, sizes, spacings, how cells are marked, how often.
-use anyhow::anyhow;
+use anyhow::{Context, anyhow};
 use grid::Sizes;
 use std::env;
 
@@ -36,9 +36,9 @@ fn small(n: u64) -> anyhow::Result<u32> {
 /// The arguments: RULE NX NY NZ SX SY SZ SEED PER_MILLE REPEATS.
 pub fn arguments(rt: &HostRuntime) -> anyhow::Result<Asked> {
     let mut words = env::args(rt)?.skip(1);
-    let Some(name) = words.next() else {
-        return Err(anyhow!("RULE NX NY NZ SX SY SZ SEED PER_MILLE REPEATS"));
-    };
+    let name = words
+        .next()
+        .context("RULE NX NY NZ SX SY SZ SEED PER_MILLE REPEATS")?;
     let rule = rule_named(&name)?;
     let mut numbers = Vec::new(rt.alloc());
     for word in words {
@@ -48,21 +48,19 @@ pub fn arguments(rt: &HostRuntime) -> anyhow::Result<Asked> {
 }
 
 fn read(rule: RuleName, numbers: &[u64]) -> anyhow::Result<Asked> {
-    if numbers.len() != 9 {
+    let [nx, ny, nz, sx, sy, sz, seed, per_mille, repeats] = *numbers else {
         return Err(anyhow!("RULE NX NY NZ SX SY SZ SEED PER_MILLE REPEATS"));
-    }
-    let sizes = Sizes {
-        nx: small(numbers[0])?,
-        ny: small(numbers[1])?,
-        nz: small(numbers[2])?,
     };
-    let spacings = (small(numbers[3])?, small(numbers[4])?, small(numbers[5])?);
     Ok(Asked {
         rule,
-        sizes,
-        spacings,
-        seed: numbers[6],
-        per_mille: numbers[7],
-        repeats: numbers[8],
+        sizes: Sizes {
+            nx: small(nx)?,
+            ny: small(ny)?,
+            nz: small(nz)?,
+        },
+        spacings: (small(sx)?, small(sy)?, small(sz)?),
+        seed,
+        per_mille,
+        repeats,
     })
 }

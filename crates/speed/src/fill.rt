@@ -8,20 +8,18 @@ pub fn fill(cells: &mut [Cell], seed: u64, per_mille: u64)
     requires { length cells.old ≤ 2 ^ 24 }
 {
     let mut x = seed;
-    for k in 0..cells.len() {
+    for (k, cell) in cells.iter_mut().enumerate() {
         x = x
             .wrapping_mul(6364136223846793005)
             .wrapping_add(1442695040888963407);
         let marked = (x >> 33) % 1000 < per_mille;
-        cells[k] = Cell::painted(marked, k as u32);
+        *cell = Cell::painted(marked, k as u32);
     }
 }
 
 /// The sum of all values, its lowest 64 bits.
 pub fn sum_of(cells: &[Cell]) -> u64 {
-    let mut sum: u64 = 0;
-    for cell in cells {
-        sum = sum.wrapping_add(cell.value);
-    }
-    sum
+    cells
+        .iter()
+        .fold(0, |sum, cell| sum.wrapping_add(cell.value))
 }

@@ -35,10 +35,8 @@ fn time_axis<R: Rule + Copy>(
     let start = Instant::now(rt)?;
     let answer = work_axis(rule, axis, asked.sizes, cells, room);
     let taken = start.elapsed(rt)?.as_secs_f64();
-    match answer {
-        Ok(()) => Ok(taken),
-        Err(_) => Err(anyhow!("a row was refused")),
-    }
+    answer.map_err(|_| anyhow!("a row was refused"))?;
+    Ok(taken)
 }
 
 /// Paints the cells and works all rows of the three axes, as often as asked.
@@ -93,9 +91,10 @@ fn time_rule(rt: &HostRuntime, asked: &Asked, cells: &mut [Cell]) -> anyhow::Res
 
 fn run(rt: &HostRuntime) -> anyhow::Result<()> {
     let asked = arguments(rt)?;
-    let Ok(count) = asked.sizes.count_cells() else {
-        return Err(anyhow!("these are not the sizes of a grid"));
-    };
+    let count = asked
+        .sizes
+        .count_cells()
+        .map_err(|_| anyhow!("these are not the sizes of a grid"))?;
     let mut cells = vec![in rt.alloc(); Cell::painted(false, 0); count as usize]?;
     time_rule(rt, &asked, &mut cells)?;
     let sum = sum_of(&cells);
