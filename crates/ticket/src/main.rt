@@ -8,11 +8,10 @@ mod brick;
 mod script;
 
 use anyhow::anyhow;
-use brick::Brick;
-use grid::{Cell, Sizes};
-use replay::{Answer, Call, Job, Unplayed, replay};
+use grid::Cell;
+use replay::{Answer, Job, Unplayed, replay};
 use rules::{Block, Chess, Rule, Square};
-use script::{RuleName, Ruled, begin_line, call_line, rule_line};
+use script::{RuleName, Script, read_script};
 
 /// A call's line and its answer.
 fn print_answer(rt: &HostRuntime, line: &str, answer: Answer) -> anyhow::Result<()> {
@@ -29,21 +28,22 @@ fn print_answer(rt: &HostRuntime, line: &str, answer: Answer) -> anyhow::Result<
     Ok(())
 }
 
-/// Makes the calls under a rule, and prints their answers and the stage at the end.
-fn play<R: Rule + Drop>(
-    rt: &HostRuntime,
-    rule: R,
-    sizes: Sizes,
-    lines: &[String],
-    calls: &[Call<Brick>],
-) -> anyhow::Result<()> {
-    let count = sizes.count_cells().unwrap_or(0);
+/// The name of the stage that a job is in.
+fn stage_name<R>(job: &Job<R>) -> &'static str {
+    match job {
+        Job::Painting(_) => "painting",
+        Job::Working(_) => "working",
+        Job::Finished(_) => "finished",
+    }
+}
+
+/// Makes the calls of a script under a rule, and prints their answers and the stage at the end.
+fn play<R: Rule + Drop>(rt: &HostRuntime, rule: R, script: &Script) -> anyhow::Result<()> {
+    let count = script.sizes.count_cells().unwrap_or(0);
     let mut cells = vec![in rt.alloc(); Cell::painted(false, 0); count as usize]?;
-    let mut answers = vec![in rt.alloc(); Answer::Absent; calls.len()]?;
-    let stage = match replay(rule, sizes, &mut cells, calls, &mut answers) {
-        Ok(Job::Painting(_)) => "painting",
-        Ok(Job::Working(_)) => "working",
-        Ok(Job::Finished(_)) => "finished",
+    let mut answers = vec![in rt.alloc(); Answer::Absent; script.calls.len()]?;
+    let stage = match replay(rule, script.sizes, &mut cells, &script.calls, &mut answers) {
+        Ok(job) => stage_name(&job),
         Err(Unplayed::Begin(kept)) => {
             let number = kept.refusal.number();
             println!(rt; "begin: refused {number}")?;
@@ -54,7 +54,7 @@ fn play<R: Rule + Drop>(
         )),
     };
     println!(rt; "begin: done")?;
-    for (line, answer) in lines.iter().zip(answers.iter()) {
+    for (line, answer) in script.lines.iter().zip(answers.iter()) {
         print_answer(rt, line, *answer)?;
     }
     println!(rt; "the job is {stage}")?;
@@ -62,48 +62,26 @@ fn play<R: Rule + Drop>(
 }
 
 /// The same under the rule that the script names.
-fn play_ruled(
-    rt: &HostRuntime,
-    ruled: Ruled,
-    sizes: Sizes,
-    lines: &[String],
-    calls: &[Call<Brick>],
-) -> anyhow::Result<()> {
-    let (sx, sy, sz) = ruled.spacings;
-    match ruled.rule {
+fn play_ruled(rt: &HostRuntime, script: &Script) -> anyhow::Result<()> {
+    let (sx, sy, sz) = script.ruled.spacings;
+    match script.ruled.rule {
         RuleName::Square => match Square::new(sx, sy, sz) {
-            Ok(rule) => play(rt, rule, sizes, lines, calls),
+            Ok(rule) => play(rt, rule, script),
             Err(_) => Err(anyhow!("a spacing is not from 1 to 10000")),
         },
         RuleName::Block => match Block::new(sx, sy, sz) {
-            Ok(rule) => play(rt, rule, sizes, lines, calls),
+            Ok(rule) => play(rt, rule, script),
             Err(_) => Err(anyhow!("a spacing is not from 1 to 10000")),
         },
         RuleName::Chess => match Chess::new(sx, sy, sz) {
-            Ok(rule) => play(rt, rule, sizes, lines, calls),
+            Ok(rule) => play(rt, rule, script),
             Err(_) => Err(anyhow!("a spacing is not from 1 to 10000")),
         },
     }
 }
 
 fn run(rt: &HostRuntime) -> anyhow::Result<()> {
-    let mut input = rt.lines(rt.alloc());
-    let Some(first) = input.next() else {
-        return Err(anyhow!("the first line is a rule"));
-    };
-    let ruled = rule_line(rt, &first?)?;
-    let Some(second) = input.next() else {
-        return Err(anyhow!("the second line is begin and three sizes"));
-    };
-    let sizes = begin_line(rt, &second?)?;
-    let mut lines = Vec::new(rt.alloc());
-    let mut calls = Vec::new(rt.alloc());
-    for line in input {
-        let line = line?;
-        calls.push(call_line(rt, &line)?)?;
-        lines.push(line)?;
-    }
-    play_ruled(rt, ruled, sizes, &lines, &calls)
+    play_ruled(rt, &read_script(rt)?)
 }
 
 fn main(rt: HostRuntime) -> anyhow::Result<()> {

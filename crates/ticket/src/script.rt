@@ -1,6 +1,6 @@
 //! Reads the lines of a script.
 use crate::brick::Brick;
-use anyhow::anyhow;
+use anyhow::{Context, anyhow};
 use grid::Sizes;
 use replay::Call;
 
@@ -17,6 +17,16 @@ pub(crate) enum RuleName {
 pub(crate) struct Ruled {
     pub(crate) rule: RuleName,
     pub(crate) spacings: (u32, u32, u32),
+}
+
+/// A script: its rule, the sizes of its job and its calls. `replay` takes a slice of calls, so the line of each stands
+/// beside it in a list of its own.
+#[derive(Drop)]
+pub(crate) struct Script {
+    pub(crate) ruled: Ruled,
+    pub(crate) sizes: Sizes,
+    pub(crate) lines: Vec<String>,
+    pub(crate) calls: Vec<Call<Brick>>,
 }
 
 /// The numbers of a line, after its first word.
@@ -40,7 +50,7 @@ fn sizes_of((nx, ny, nz): (u32, u32, u32)) -> Sizes {
 }
 
 /// `square`, `block` or `chess`, and three spacings.
-pub(crate) fn rule_line(rt: &HostRuntime, line: &str) -> anyhow::Result<Ruled> {
+fn rule_line(rt: &HostRuntime, line: &str) -> anyhow::Result<Ruled> {
     let rule = match line.split_whitespace().next() {
         Some("square") => RuleName::Square,
         Some("block") => RuleName::Block,
@@ -52,7 +62,7 @@ pub(crate) fn rule_line(rt: &HostRuntime, line: &str) -> anyhow::Result<Ruled> {
 }
 
 /// `begin` and three sizes.
-pub(crate) fn begin_line(rt: &HostRuntime, line: &str) -> anyhow::Result<Sizes> {
+fn begin_line(rt: &HostRuntime, line: &str) -> anyhow::Result<Sizes> {
     match line.split_whitespace().next() {
         Some("begin") => Ok(sizes_of(place(&numbers(rt, line)?, 0)?)),
         _ => Err(anyhow!("the second line is begin and three sizes")),
@@ -60,7 +70,7 @@ pub(crate) fn begin_line(rt: &HostRuntime, line: &str) -> anyhow::Result<Sizes> 
 }
 
 /// A call and its arguments; `load` has the sizes of a picture and two corners, between which it marks all cells.
-pub(crate) fn call_line(rt: &HostRuntime, line: &str) -> anyhow::Result<Call<Brick>> {
+fn call_line(rt: &HostRuntime, line: &str) -> anyhow::Result<Call<Brick>> {
     let given = numbers(rt, line)?;
     match line.split_whitespace().next() {
         Some("mark") => Ok(Call::Mark(place(&given, 0)?)),
@@ -72,13 +82,34 @@ pub(crate) fn call_line(rt: &HostRuntime, line: &str) -> anyhow::Result<Call<Bri
             Ok(Call::Load(Brick { sizes, low, high }))
         }
         Some("start") => Ok(Call::Start),
-        Some("row") => match given.first() {
-            Some(number) => Ok(Call::Row(*number)),
-            None => Err(anyhow!("a row has a number")),
-        },
+        Some("row") => Ok(Call::Row(*given.first().context("a row has a number")?)),
         Some("raise") => Ok(Call::Raise),
         Some("look") => Ok(Call::Look(place(&given, 0)?)),
         Some("reopen") => Ok(Call::Reopen),
         _ => Err(anyhow!("a call is mark, wipe, load, start, row, raise, look or reopen")),
     }
+}
+
+/// Reads standard input.
+pub(crate) fn read_script(rt: &HostRuntime) -> anyhow::Result<Script> {
+    let mut input = rt.lines(rt.alloc());
+    let first = input.next().context("the first line is a rule")?;
+    let ruled = rule_line(rt, &first?)?;
+    let second = input
+        .next()
+        .context("the second line is begin and three sizes")?;
+    let sizes = begin_line(rt, &second?)?;
+    let mut lines = Vec::new(rt.alloc());
+    let mut calls = Vec::new(rt.alloc());
+    for line in input {
+        let line = line?;
+        calls.push(call_line(rt, &line)?)?;
+        lines.push(line)?;
+    }
+    Ok(Script {
+        ruled,
+        sizes,
+        lines,
+        calls,
+    })
 }
