@@ -24,20 +24,20 @@ pub struct Asked<'a> {
 
 /// Whether there are no words, or the first asks for help.
 pub fn asks_for_help(words: &[String]) -> bool {
-    match words.first() {
-        None => true,
-        Some(word) => word.as_str() == "--help" || word.as_str() == "-h",
-    }
+    words
+        .first()
+        .is_none_or(|word| matches!(word.as_str(), "--help" | "-h"))
 }
 
 /// What is wrong with the word of a column.
-fn word_fault(column: Column) -> &'static str {
-    match column {
-        Column::Rule => "job: cause 31: RULE is not square, block or chess",
-        Column::Sx => "job: cause 31: SX is not a number from 1 to 10000",
-        Column::Sy => "job: cause 31: SY is not a number from 1 to 10000",
-        Column::Sz => "job: cause 31: SZ is not a number from 1 to 10000",
-    }
+fn word_fault(column: Column) -> anyhow::Error {
+    let axis = match column {
+        Column::Rule => return anyhow!("job: cause 31: RULE is not square, block or chess"),
+        Column::Sx => "SX",
+        Column::Sy => "SY",
+        Column::Sz => "SZ",
+    };
+    anyhow!("job: cause 31: {axis} is not a number from 1 to 10000")
 }
 
 /// Whether the output, or the part file that is written before it, has the input's name.
@@ -47,20 +47,16 @@ fn replaces(output: &str, input: &str) -> bool {
 
 /// The words RULE SX SY SZ INPUT OUTPUT.
 pub fn read_words(words: &[String]) -> anyhow::Result<Asked<'_>> {
-    if words.len() != 6 {
+    let [rule, sx, sy, sz, input, output] = words else {
         return Err(anyhow!("the words are RULE SX SY SZ INPUT OUTPUT (volume --help tells more)"));
-    }
-    let input = words[4].as_str();
-    let output = words[5].as_str();
+    };
     if replaces(output, input) {
         return Err(anyhow!("the output would replace the input"));
     }
-    match read_settings(&words[0], &words[1], &words[2], &words[3]) {
-        Ok(settings) => Ok(Asked {
-            settings,
-            input,
-            output,
-        }),
-        Err(column) => Err(anyhow!(word_fault(column))),
-    }
+    let settings = read_settings(rule, sx, sy, sz).map_err(word_fault)?;
+    Ok(Asked {
+        settings,
+        input,
+        output,
+    })
 }

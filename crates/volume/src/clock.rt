@@ -1,5 +1,6 @@
 //! Seconds and progress, on standard error.
 use replay::Watch;
+use std::fmt::Display;
 use std::time::Instant;
 
 /// Tells how long each part of the work took. A clock that fails is passed over.
@@ -28,7 +29,7 @@ impl<'a> Stopwatch<'a> {
     }
 
     /// Tells the seconds since the last lap, and starts the next.
-    pub fn lap(&mut self, part: &str) {
+    pub fn lap(&mut self, part: impl Display + Drop) {
         if let Some(seconds) = self.seconds() {
             let _ = eprintln!(self.rt; "{part}: {seconds:.3} s");
         }
@@ -59,18 +60,16 @@ impl<'a> Progress<'a> {
     }
 
     fn axis_ends(&mut self, axis: u8) {
-        match axis {
-            1 => self.stopwatch.lap("axis 1"),
-            2 => self.stopwatch.lap("axis 2"),
-            _ => self.stopwatch.lap("axis 3"),
-        }
+        self.stopwatch.lap(format_args!("axis {axis}"));
     }
 
     fn axis_goes_on(&self, axis: u8, done: u32, of: u32) {
-        if let Some(seconds) = self.stopwatch.seconds() {
-            if seconds > 1.0 {
-                let _ = eprintln!(self.stopwatch.rt; "axis {axis}: {done} of {of} rows");
-            }
+        if self
+            .stopwatch
+            .seconds()
+            .is_some_and(|seconds| seconds > 1.0)
+        {
+            let _ = eprintln!(self.stopwatch.rt; "axis {axis}: {done} of {of} rows");
         }
     }
 }

@@ -1,57 +1,40 @@
 //! The input's bytes, and the file of a field.
-ghost use Rattle.std.specs.Prelude.{◌≤◌, length};
+ghost use Rattle.std.specs.Prelude.{◌*◌, ◌≤◌, length};
 
-use anyhow::anyhow;
+use anyhow::Context;
 use grid::Cell;
 use std::fs::File;
 use std::io::Write;
 use std::{fs, io};
-use volumes::{put_points, put_values};
+use volumes::{ChunkFault, put_points, put_values};
 
 /// How many cells are written at a time.
 const CHUNK: usize = 8192;
 
 pub fn read_input(rt: &HostRuntime, path: &str) -> anyhow::Result<Vec<u8>> {
-    match fs::read(rt, path) {
-        Ok(bytes) => Ok(bytes),
-        Err(error) => Err(anyhow!(format!(in rt.alloc(); "the input cannot be read: {error}")?)),
-    }
+    fs::read(rt, path).context("the input cannot be read")
 }
 
 fn unfit() -> io::Error {
     io::Error::new(io::ErrorKind::InvalidInput, "a chunk does not fit")
 }
 
-/// Writes the value of each cell.
-fn write_values(file: &mut File, cells: &[Cell], buffer: &mut [u8]) -> io::Result<()>
-    requires { 65536 ≤ length buffer.old }
+/// Writes the bytes that `put` makes of the cells, `width` for each, a chunk of cells at a time.
+fn write_part<F: Fn(&[Cell], usize, &mut [u8]) -> Result<(), ChunkFault>>(
+    file: &mut File,
+    cells: &[Cell],
+    width: usize,
+    buffer: &mut [u8],
+    put: F,
+) -> io::Result<()>
+    requires room { width * 8192 ≤ length buffer.old }
+    requires callable { F.IsAlwaysCallable put }
 {
-    let mut from = 0;
-    while from < cells.len() {
+    for from in (0..cells.len()).step_by(CHUNK) {
         let count = (cells.len() - from).min(CHUNK);
-        let chunk = &mut buffer[0..8 * count];
-        if put_values(cells, from, chunk).is_err() {
-            return Err(unfit());
-        }
+        let chunk = &mut buffer[..width * count];
+        put(cells, from, chunk).map_err(|_| unfit())?;
         file.write_all(chunk)?;
-        from += count;
-    }
-    Ok(())
-}
-
-/// Writes the point of each cell.
-fn write_points(file: &mut File, cells: &[Cell], buffer: &mut [u8]) -> io::Result<()>
-    requires { 32768 ≤ length buffer.old }
-{
-    let mut from = 0;
-    while from < cells.len() {
-        let count = (cells.len() - from).min(CHUNK);
-        let chunk = &mut buffer[0..4 * count];
-        if put_points(cells, from, chunk).is_err() {
-            return Err(unfit());
-        }
-        file.write_all(chunk)?;
-        from += count;
     }
     Ok(())
 }
@@ -65,8 +48,21 @@ fn fill_file(
     cells: &[Cell],
 ) -> io::Result<()> {
     let mut buffer = [0u8; 65536];
-    write_values(&mut file, cells, &mut buffer)?;
-    write_points(&mut file, cells, &mut buffer)?;
+    // by closures, since a function of another crate is not proved where its bare name is passed
+    write_part(
+        &mut file,
+        cells,
+        8,
+        &mut buffer,
+        |all, from, chunk| put_values(all, from, chunk),
+    )?;
+    write_part(
+        &mut file,
+        cells,
+        4,
+        &mut buffer,
+        |all, from, chunk| put_points(all, from, chunk),
+    )?;
     file.sync_all()?;
     fs::rename(rt, part, path)
 }
@@ -83,10 +79,5 @@ fn write_whole(rt: &HostRuntime, part: &str, path: &str, cells: &[Cell]) -> io::
 
 pub fn write_field(rt: &HostRuntime, path: &str, cells: &[Cell]) -> anyhow::Result<()> {
     let part = format!(in rt.alloc(); "{path}.part")?;
-    match write_whole(rt, &part, path, cells) {
-        Ok(()) => Ok(()),
-        Err(error) => Err(anyhow!(format!(in rt.alloc();
-            "the output cannot be written: {error}"
-        )?)),
-    }
+    write_whole(rt, &part, path, cells).context("the output cannot be written")
 }

@@ -5,14 +5,11 @@
 
 mod asked;
 mod clock;
-mod faults;
 mod file;
 mod told;
 
-use anyhow::anyhow;
 use asked::{Asked, USAGE, asks_for_help, read_words};
 use clock::{Progress, Stopwatch};
-use faults::fault_text;
 use file::{read_input, write_field};
 use std::env;
 use std::process::ExitCode;
@@ -22,10 +19,7 @@ use volumes::{Volume, find_volume};
 /// Finds the field of the input's bytes.
 fn find(rt: &HostRuntime, asked: &Asked, input: &[u8]) -> anyhow::Result<Volume> {
     let mut progress = Progress::new(rt);
-    match find_volume(rt.alloc(), asked.settings, input, &mut progress) {
-        Ok(volume) => Ok(volume),
-        Err(fault) => Err(anyhow!(fault_text(rt.alloc(), fault)?)),
-    }
+    Ok(find_volume(rt.alloc(), asked.settings, input, &mut progress)?)
 }
 
 /// Reads the input, finds its field, writes it and tells of it.
@@ -41,10 +35,7 @@ fn work(rt: &HostRuntime, asked: &Asked) -> anyhow::Result<()> {
 }
 
 fn run(rt: &HostRuntime) -> anyhow::Result<()> {
-    let mut words = Vec::new(rt.alloc());
-    for word in env::args(rt)?.skip(1) {
-        words.push(word)?;
-    }
+    let words: Vec<String> = env::args(rt)?.skip(1).collect(rt.alloc())?;
     if asks_for_help(&words) {
         rt.print(USAGE)?;
         return Ok(());
@@ -58,7 +49,7 @@ fn main(rt: HostRuntime) -> ExitCode {
     match run(&rt) {
         Ok(()) => ExitCode::SUCCESS,
         Err(error) => {
-            let _ = eprintln!(rt; "volume: {error}");
+            let _ = eprintln!(rt; "volume: {error:#}");
             ExitCode::FAILURE
         }
     }

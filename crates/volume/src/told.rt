@@ -26,8 +26,8 @@ pub fn tell(rt: &HostRuntime, rule: RuleName, sizes: Sizes, cells: &[Cell]) -> a
     let summary = summarise(cells);
     let marked = summary.marked;
     println!(rt; "marked {marked}")?;
-    match summary.farthest {
-        Some(farthest) => tell_farthest(rt, rule, sizes, farthest),
-        None => Ok(()),
+    if let Some(farthest) = summary.farthest {
+        tell_farthest(rt, rule, sizes, farthest)?;
     }
+    Ok(())
 }
