@@ -1,7 +1,9 @@
 -- What the crossing law gives of a stack of candidates.
-use Rattle.std.proofs.Common.{◌≡◌, ℕ, zero, suc, ◌+◌, ◌-◌, ◌<◌, ◌≤◌, ◌≢◌, List, [], ◌∷◌, length, get_or, set, sym, refl, subst, inl, inr, ⊎_elim, le_trans, le_of_lt, add-one, arith, get_or-set_other, get_or-set_same}
+use Rattle.std.proofs.Common.{◌≡◌, ℕ, ◌+◌, ◌-◌, ◌<◌, ◌≤◌, List, [], ◌∷◌, ◌++◌, length, take, reverse, slice_get, Some, sym, ap, ◌∙◌, subst, inl, inr, ⊎_elim, le_trans, arith, take_all, append_assoc}
 use Rattle.std.specs.List.{AllByRecursion}
-use Rattle.std.proofs.lemmas.Bool.{cases_lt, cases_eq}
+use Rattle.std.proofs.lemmas.Bool.{cases_lt}
+use Rattle.std.proofs.lemmas.List.{reverse-append, take_more}
+use Rattle.std.proofs.lemmas.Option.{slice_get_within, get_or_from_slice_get}
 use Rattle.grid.specs.Distance.{Near}
 use Rattle.grid.specs.RowGeometry.{OnAxis}
 use Rattle.grid.specs.Rows.{NearOn}
@@ -9,65 +11,77 @@ use Rattle.rules.specs.Ranges.{Paired}
 use Rattle.rules.specs.Laws.{Crossing}
 use Rattle.rules.proofs.Orders.{stays}
 use Rattle.rows.specs.declared.candidate.Candidate.{Candidate}
-use Rattle.rows.specs.Stacks.{no_candidate, stacked, cost_of, Overtakes, LinedUp, Covers, Within, Climbs, start_of}
+use Rattle.rows.specs.Stacks.{cost_of, Overtakes, LinedUp, Covers, Within, IsBottom}
 
--- the slice below the top
+-- serving
 
-pub stacked_set : (s : List Candidate) (n : ℕ) (c : Candidate) (m : ℕ) → m ≤ n → stacked (set s n c) m ≡ stacked s m
-stacked_set s n c zero h = refl
-stacked_set s n c (suc m) h =
-    let ne : m ≢ n = omega arith in
-    rw (get_or-set_other s n m c no_candidate ne, stacked_set s n c m (le_of_lt h))
+-- the first of these candidates, if there is one, begins no earlier than at the place t
+abbrev pub Waits : List Candidate → ℕ → Type 0
+Waits [] t = Unit {0}
+Waits (c ∷ st) t = t ≤ c.start
 
-pub stacked_push : (s : List Candidate) (n : ℕ) (c : Candidate) → n < length s → stacked (set s n c) (n + 1) ≡ c ∷ stacked s n
-stacked_push s n c h = rw (add-one, get_or-set_same s n c no_candidate h, stacked_set s n c n (omega arith))
+-- the candidate c of s, with those above it: it has begun by the place t, and the next one begins no earlier than at u
+pub record Serving (s : List Candidate) (c : Candidate) (later : List Candidate) (t u : ℕ) : Type 0 where
+  pub above : (earlier : List Candidate) × (s ≡ earlier ++ c ∷ later)
+  pub begun : c.start ≤ t
+  pub next : Waits later u
 
-pub all_below : (P : Candidate → Type 0) (s : List Candidate) (n m : ℕ) → m ≤ n → AllByRecursion P (stacked s n) → AllByRecursion P (stacked s m)
-all_below P s zero m h a = let e : 0 ≡ m = omega arith in subst (λ k. AllByRecursion P (stacked s k)) e a
-all_below P s (suc n) m h a =
-    ⊎_elim (λ e. subst (λ k. AllByRecursion P (stacked s k)) (sym e) a) (λ ne. all_below P s n m (omega arith) a.1) (cases_eq m (suc n))
+-- the stack from the top down
 
-pub all_at : (P : Candidate → Type 0) (s : List Candidate) (n k : ℕ) → k < n → AllByRecursion P (stacked s n) → P (get_or s k no_candidate)
-all_at P s zero k h a = absurd (omega arith)
-all_at P s (suc n) k h a =
-    ⊎_elim (λ e. subst (λ m. P (get_or s m no_candidate)) (sym e) a.0) (λ ne. all_at P s n k (omega arith) a.1) (cases_eq k n)
+pub top_down : (below : List Candidate) (c : Candidate) → reverse (below ++ c ∷ []) ≡ c ∷ reverse below
+top_down below c = reverse-append below (c ∷ [])
 
--- the candidate on top, and those below it
-pub stacked_top : (s : List Candidate) (n : ℕ) → 0 < n → stacked s n ≡ get_or s (n - 1) no_candidate ∷ stacked s (n - 1)
-stacked_top s zero h = absurd (omega arith)
-stacked_top s (suc n) h =
-    let e : n ≡ suc n - 1 = omega arith in subst (λ m. stacked s (suc n) ≡ get_or s m no_candidate ∷ stacked s m) e refl
+pub around : (earlier : List Candidate) (c : Candidate) (later : List Candidate) → reverse (earlier ++ c ∷ later) ≡ reverse later ++ c ∷ reverse earlier
+around earlier c later = reverse-append earlier (c ∷ later) ∙ ap (λ st. st ++ reverse earlier) (reverse-append (c ∷ []) later) ∙ append_assoc (reverse later) (c ∷ []) (reverse earlier)
+
+around_two : (earlier : List Candidate) (c n : Candidate) (later : List Candidate) → reverse (earlier ++ c ∷ n ∷ later) ≡ reverse later ++ n ∷ c ∷ reverse earlier
+around_two earlier c n later = around earlier c (n ∷ later) ∙ ap (λ st. st ++ c ∷ reverse earlier) (reverse-append (n ∷ []) later) ∙ append_assoc (reverse later) (n ∷ []) (c ∷ reverse earlier)
+
+-- the top candidate, and those below it
+pub top_split : (s : List Candidate) (c : Candidate) → slice_get s (length s - 1) ≡ Some c → s ≡ take (length s - 1) s ++ c ∷ []
+top_split s c e =
+    let n = length s - 1 in
+    let h : n < length s = slice_get_within s n c e in
+    sym (take_all (n + 1) s (omega (arith, h))) ∙ take_more s n c h ∙ ap (λ x. take n s ++ x ∷ []) (get_or_from_slice_get s n c c e)
+
+pub all_back : (P : Candidate → Type 0) (up down : List Candidate) → AllByRecursion P (up ++ down) → AllByRecursion P down
+all_back P [] down a = a
+all_back P (c ∷ up) down a = all_back P up down a.1
+
+pub all_bottom : (P : Candidate → Type 0) (kept s : List Candidate) → IsBottom kept s → AllByRecursion P (reverse s) → AllByRecursion P (reverse kept)
+all_bottom P kept s b a =
+    all_back P (reverse b.0) (reverse kept) (subst (λ st. AllByRecursion P st) (ap reverse b.1 ∙ reverse-append kept b.0) a)
 
 module _ (near : NearOn) where
   pub lined_below : (c : Candidate) (st : List Candidate) → LinedUp near (c ∷ st) → LinedUp near st
   lined_below c [] l = tt
   lined_below c (b ∷ st) l = l.1
 
-  pub lined_down : (s : List Candidate) (n m : ℕ) → m ≤ n → LinedUp near (stacked s n) → LinedUp near (stacked s m)
-  lined_down s zero m h l = let e : 0 ≡ m = omega arith in subst (λ k. LinedUp near (stacked s k)) e l
-  lined_down s (suc n) m h l =
-      ⊎_elim (λ e. subst (λ k. LinedUp near (stacked s k)) (sym e) l)
-      (λ ne. lined_down s n m (omega arith) (lined_below (get_or s n no_candidate) (stacked s n) l)) (cases_eq m (suc n))
+  lined_back : (up down : List Candidate) → LinedUp near (up ++ down) → LinedUp near down
+  lined_back [] down l = l
+  lined_back (c ∷ up) down l = lined_back up down (lined_below c (up ++ down) l)
 
-  pub climbs : (s : List Candidate) (n : ℕ) → LinedUp near (stacked s n) → Climbs s n
-  climbs s zero l k h = absurd (omega arith)
-  climbs s (suc zero) l k h = absurd (omega arith)
-  climbs s (suc (suc n)) l k h =
-      ⊎_elim (λ e. subst (λ m. start_of s m < start_of s (m + 1)) (sym e) (rw add-one l.0.starts_later)) (λ ne. climbs s (suc n) l.1 k (omega arith)) (cases_eq k n)
+  pub lowest_start : (s : List Candidate) (c : Candidate) (later : List Candidate) → s ≡ c ∷ later → LinedUp near (reverse s) → c.start ≡ 0
+  lowest_start s c later e l =
+      lined_back (reverse later) (c ∷ []) (subst (λ st. LinedUp near st) (ap reverse e ∙ around [] c later) l)
 
-  pub first_start : (s : List Candidate) (n : ℕ) → 0 < n → LinedUp near (stacked s n) → start_of s 0 ≡ 0
-  first_start s zero h l = absurd (omega arith)
-  first_start s (suc zero) h l = l
-  first_start s (suc (suc n)) h l = first_start s (suc n) (omega arith) l.1
+  -- one candidate of the stack starts before the next
+  pub next_later : (earlier : List Candidate) (c n : Candidate) (later : List Candidate) → LinedUp near (reverse (earlier ++ c ∷ n ∷ later)) → c.start < n.start
+  next_later earlier c n later l =
+      (lined_back (reverse later) (n ∷ c ∷ reverse earlier) (subst (λ st. LinedUp near st) (around_two earlier c n later) l)).0.starts_later
 
-  -- no start is above a later one
-  climbed : (s : List Candidate) (n k m : ℕ) → Climbs s n → k ≤ m → m < n → start_of s k ≤ start_of s m
-  climbed s n k zero c h i = let e : k ≡ 0 = omega arith in rw e (omega arith)
-  climbed s n k (suc m) c h i =
-      ⊎_elim (λ e. rw e (omega arith))
-      (λ ne. let below : start_of s k ≤ start_of s m = climbed s n k m c (omega arith) (omega arith) in
-      let step : start_of s m < start_of s (suc m) = rw add-one at (c m (omega arith)) in omega arith)
-      (cases_eq k (suc m))
+  -- those above a candidate that has not begun have not begun either
+  above_wait : (t : ℕ) (up : List Candidate) (n : Candidate) (down : List Candidate) → LinedUp near (up ++ n ∷ down) → t < n.start → AllByRecursion (λ c. t < c.start) (up ++ n ∷ [])
+  above_wait t [] n down l h = (h, tt)
+  above_wait t (c ∷ []) n down l h = (omega (arith, l.0.starts_later), (h, tt))
+  above_wait t (c ∷ b ∷ up) n down l h =
+      let rest = above_wait t (b ∷ up) n down l.1 h in (omega (arith, l.0.starts_later, rest.0), rest)
+
+  pub later_wait : (t : ℕ) (earlier : List Candidate) (c : Candidate) (later : List Candidate) → LinedUp near (reverse (earlier ++ c ∷ later)) → Waits later (t + 1) → AllByRecursion (λ b. t < b.start) (reverse later)
+  later_wait t earlier c [] l w = tt
+  later_wait t earlier c (n ∷ later) l w =
+      subst (λ st. AllByRecursion (λ b. t < b.start) st) (sym (reverse-append (n ∷ []) later))
+      (above_wait t (reverse later) n (c ∷ reverse earlier) (subst (λ st. LinedUp near st) (around_two earlier c n later) l) (omega (arith, w)))
 
   -- before its start a candidate is not needed
   pub drop_top : (c : Candidate) (st : List Candidate) (t v : ℕ) → LinedUp near (c ∷ st) → t < c.start → Covers near (c ∷ st) t v → Covers near st t v
@@ -112,13 +126,7 @@ module _ (ceiling : ℕ → ℕ) (near : Near) (law : Crossing ceiling near) (d 
   pop_covers x c st e t v l wc wx f h k (inr (inr n)) = inr n
 
   -- the last candidate that has begun is nearest of all
-  pub last_best : (s : List Candidate) (n k t v : ℕ) → LinedUp (near d) (stacked s n) → AllByRecursion (Within (ceiling (d - 1)) 1023) (stacked s n) → k < n → start_of s k ≤ t → (k + 1 < n → t < start_of s (k + 1)) → t < 1023 → Covers (near d) (stacked s n) t v → cost_of (near d) (get_or s k no_candidate) t ≤ v
-  last_best s zero k t v l w h b x r c = absurd (omega arith)
-  last_best s (suc n) k t v l w h b x r c =
-      ⊎_elim
-      (λ e. rw e (top_best (get_or s n no_candidate) (stacked s n) t v l w (rw e at b) r c))
-      (λ ne. let up : start_of s (k + 1) ≤ start_of s n = climbed (near d) s (suc n) (k + 1) n (climbs (near d) s (suc n) l) (omega arith) (omega arith) in
-      let now : t < start_of s (k + 1) = x (omega arith) in
-      last_best s n k t v (lined_below (near d) (get_or s n no_candidate) (stacked s n) l) w.1 (omega arith) b (λ i. now) r
-      (drop_top (near d) (get_or s n no_candidate) (stacked s n) t v l (omega arith) c))
-      (cases_eq k n)
+  pub last_best : (up : List Candidate) (c : Candidate) (down : List Candidate) (t v : ℕ) → LinedUp (near d) (up ++ c ∷ down) → AllByRecursion (Within (ceiling (d - 1)) 1023) (up ++ c ∷ down) → c.start ≤ t → AllByRecursion (λ b. t < b.start) up → t < 1023 → Covers (near d) (up ++ c ∷ down) t v → cost_of (near d) c t ≤ v
+  last_best [] c down t v l w b a r k = top_best c down t v l w b r k
+  last_best (x ∷ up) c down t v l w b a r k =
+      last_best up c down t v (lined_below (near d) x (up ++ c ∷ down) l) w.1 b a.1 r (drop_top (near d) x (up ++ c ∷ down) t v l a.0 k)

@@ -5,7 +5,7 @@ use grid::Axis;
 use rules::{Point, Rule};
 
 /// A point of a row that may be nearest from the place `start` on. It stands at `place` and carries `value`.
-#[derive(Clone, Copy)]
+#[derive(Clone, Copy, Default)]
 pub(crate) struct Candidate {
     pub(crate) place: u16,
     pub(crate) start: u16,
@@ -25,14 +25,6 @@ impl Candidate {
         }
     }
 }
-
-/// What stands in room that is not in use.
-pub(crate) const UNUSED: Candidate = Candidate {
-    place: 0,
-    start: 0,
-    point: 0,
-    value: 0,
-};
 
 /// The lowest place at which `new` is no farther than `old`, or 1023 where there is none.
 pub(crate) fn overtaking<R: Rule>(rule: &R, axis: Axis, old: Candidate, new: Candidate) -> u16

@@ -8,6 +8,7 @@ ghost use Rattle.rows.specs.Stacks.{Gathered};
 
 use crate::candidate::Candidate;
 use crate::places::load;
+use crate::room::Stack;
 use crate::stack::add;
 use grid::{Axis, Cell, Refusal, Row};
 use rules::Rule;
@@ -16,10 +17,7 @@ use rules::Rule;
 fn most_on<R: Rule>(rule: &R, axis: Axis) -> u64
     ensures { result ≡ R.ceiling rule.now (axis.number - 1) }
 {
-    match rule.most_carried(axis.number) {
-        Some(most) => most,
-        None => unreachable(),
-    }
+    rule.most_carried(axis.number).unwrap()
 }
 
 /// Why a row that has too large a value is refused, where the places before `first` are known to stand at the level:
@@ -30,28 +28,26 @@ fn refusal_past(cells: &[Cell], row: Row, level: u8, first: u16) -> Refusal
     requires before { RowAt first (records cells.now (row_at row)) level }
     ensures { result ≡ late_refusal row.count (records cells.now (row_at row)) level }
 {
-    for i in first..row.count {
-        if load(cells, row, i).level != level {
-            return Refusal::RowLevel;
-        }
+    if (first..row.count).any(|i| load(cells, row, i).level != level) {
+        Refusal::RowLevel
+    } else {
+        Refusal::RowValue
     }
-    Refusal::RowValue
 }
 
-/// Gathers the candidates of a row onto the stack, and says how many there are, or why the row is refused.
+/// Gathers the candidates of a row onto the stack, which is emptied first, or says why the row is refused.
 pub(crate) fn gather<R: Rule>(
     rule: &R,
     axis: Axis,
     cells: &[Cell],
     row: Row,
-    stack: &mut [Candidate],
-) -> Result<usize, Refusal>
+    stack: &mut Stack,
+) -> Result<(), Refusal>
     requires row { LiesIn row (length cells.now) }
-    requires room { row.count ≤ length stack.old }
-    ensures { Admits result (pass_door (R.ceiling rule.now) axis.number row cells.now) (Gathered (R.near rule.now axis.number) row.count (records cells.now (row_at row)) row.count stack.new) }
+    ensures { Admits result (pass_door (R.ceiling rule.now) axis.number row cells.now) (λ _. Gathered (R.near rule.now axis.number) row.count (records cells.now (row_at row)) row.count stack.new.items) }
 {
     let most = most_on(rule, axis);
-    let mut len = 0;
+    stack.clear();
     for j in 0..row.count {
         let cell = load(cells, row, j);
         if cell.level != axis.number - 1 {
@@ -67,8 +63,8 @@ pub(crate) fn gather<R: Rule>(
                 point,
                 value: cell.value,
             };
-            len = add(rule, axis, row.count, stack, len, new);
+            add(rule, axis, row.count, stack, new);
         }
     }
-    Ok(len)
+    Ok(())
 }

@@ -24,6 +24,7 @@ pub(crate) fn load(cells: &[Cell], row: Row, t: u16) -> Cell
 }
 
 /// The parts of a record, marked, level, point and value, once its row is worked: its mark stays.
+// A record's parts go in and out as a tuple.
 fn worked_parts(
     parts: (bool, u8, Option<u32>, u64),
     level: u8,

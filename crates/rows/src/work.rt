@@ -4,7 +4,7 @@ ghost use Rattle.rows.specs.Passes.{Worked};
 
 use crate::gather::gather;
 use crate::room::Room;
-use crate::serve::{clear, serve};
+use crate::serve::serve;
 use grid::{Axis, Cell, Refusal, Row};
 use rules::Rule;
 
@@ -25,11 +25,7 @@ pub fn work_row<R: Rule>(
     requires row { LiesIn row (length cells.old) }
     ensures { Worked result (R.near rule.now) (R.ceiling rule.now) axis.number row cells.old cells.new }
 {
-    let len = gather(rule, axis, cells, row, &mut room.candidates)?;
-    if len == 0 {
-        clear(axis, cells, row);
-    } else {
-        serve(rule, axis, cells, row, &room.candidates, len);
-    }
+    gather(rule, axis, cells, row, &mut room.candidates)?;
+    serve(rule, axis, cells, row, &room.candidates);
     Ok(())
 }

@@ -1,13 +1,9 @@
 use Rattle.std.proofs.Common.{◌+◌, ◌<◌, sym, refl, ap, subst}
-use Rattle.grid.specs.RowGeometry.{LiesIn, row_at}
+use Rattle.grid.specs.RowGeometry.{row_at}
 use Rattle.grid.specs.Rows.{records}
 use Rattle.rows.specs.Passes.{Passed, Blank}
 use Rattle.rows.proofs.Rewrites.{lies, passed_ahead, passed_more}
 use Rattle.rows.proofs.serve.clear.Goals as goal
-
-pub store-requires : goal.store-requires
-store-requires c =
-    record { row = subst (λ n. LiesIn c.args.row n) (sym c.loop-t.invariant.same_length) c.requires.row; place = c.loop-t-test.true }
 
 pub loop-t-preserved : goal.loop-t-preserved
 loop-t-preserved c =

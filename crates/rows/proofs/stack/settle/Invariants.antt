@@ -1,12 +1,17 @@
-use Rattle.std.proofs.Common.{ℕ, ◌<◌, ◌≤◌, ◌∷◌}
-use Rattle.rows.specs.Stacks.{stacked, Covers}
+use Rattle.std.proofs.Common.{ℕ, ◌-◌, ◌<◌, ◌∷◌, length, reverse}
+use Rattle.std.specs.List.{AllByRecursion}
+use Rattle.rows.specs.Stacks.{IsBottom, LinedUp, Covers, Within}
 use Rattle.rows.proofs.stack.settle.Given as goal
 
 -- what was covered still is, by the candidates that are left and the new one
-abbrev pub invariant-loop-n : goal.invariant-loop-n
-invariant-loop-n g l =
+abbrev pub invariant-loop-top : goal.invariant-loop-top
+invariant-loop-top g l =
     let near = g.R.Rule.near l.rule l.axis.number in
-    (l.n ≤ l.len) × ((t v : ℕ) → t < 1023 → Covers near (l.new ∷ stacked l.stack l.len) t v → Covers near (l.new ∷ stacked l.stack l.n) t v)
+    let most = g.R.Rule.ceiling l.rule (l.axis.number - 1) in
+    IsBottom l.stack.items l.initial.stack.items
+    × LinedUp near (reverse l.stack.items)
+    × AllByRecursion (Within most l.new.place) (reverse l.stack.items)
+    × ((t v : ℕ) → t < 1023 → Covers near (l.new ∷ reverse l.initial.stack.items) t v → Covers near (l.new ∷ reverse l.stack.items) t v)
 
-abbrev pub decreases-loop-n : goal.decreases-loop-n
-decreases-loop-n g l = l.n
+abbrev pub decreases-loop-top : goal.decreases-loop-top
+decreases-loop-top g l = length l.stack.items
