@@ -15,7 +15,7 @@ mod whole;
 
 pub use calls::{Answer, Call};
 pub use jobs::{Job, Unplayed};
-pub use new_cells::{FieldError, find_new_field};
+pub use new_cells::{FieldError, find_named_field, find_new_field};
 pub use replaying::{replay, replay_both};
 pub use watch::{Unwatched, Watch};
 pub use whole::{find_field, find_field_watched};

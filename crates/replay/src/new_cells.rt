@@ -1,6 +1,7 @@
 //! The whole field of a picture, in cells that are made for it.
 ghost use Rattle.std.specs.Prelude.{◌≡◌, MatchResult};
 ghost use Rattle.pictures.specs.Numbered.{marks_by_number};
+ghost use Rattle.rules.specs.Named.{named_near};
 ghost use Rattle.replay.specs.declared.new_cells.FieldError.TheVariants.{Refused, NoMemory};
 ghost use Rattle.replay.specs.Whole.{FieldFound, FieldFails};
 
@@ -8,7 +9,7 @@ use crate::watch::Watch;
 use crate::whole::find_field_watched;
 use grid::{Cell, Refusal};
 use pictures::Picture;
-use rules::Rule;
+use rules::{Block, Chess, Rule, RuleName, Spacings, Square};
 use std::alloc::{AllocError, Global};
 
 /// Why there is no field.
@@ -53,5 +54,24 @@ pub fn find_new_field<R: Rule + Drop, P: Picture, W: Watch>(
     match find_field_watched(rule, picture, &mut cells, watch) {
         Ok(_) => Ok(cells),
         Err(kept) => Err(FieldError::Refused(kept.refusal)),
+    }
+}
+
+/// The same under the rule of a name.
+///
+/// The choice is made once, among three types: `NamedRule`, which makes it for each cell, takes 5 to 13 percent longer.
+pub fn find_named_field<P: Picture, W: Watch>(
+    heap: Global,
+    name: RuleName,
+    spacings: Spacings,
+    picture: &P,
+    watch: &mut W,
+) -> Result<Vec<Cell>, FieldError>
+    ensures { MatchResult result (λ v. FieldFound (named_near name spacings) (P.extent picture.now) (marks_by_number (P.extent picture.now) (P.marks picture.now)) v.items) (λ e. FieldFails (P.extent picture.now) (marks_by_number (P.extent picture.now) (P.marks picture.now)) e) }
+{
+    match name {
+        RuleName::Square => find_new_field(heap, Square::from(spacings), picture, watch),
+        RuleName::Block => find_new_field(heap, Block::from(spacings), picture, watch),
+        RuleName::Chess => find_new_field(heap, Chess::from(spacings), picture, watch),
     }
 }
