@@ -1,4 +1,3 @@
 mod Counting
 mod Filing
-mod Finding
 mod Reading

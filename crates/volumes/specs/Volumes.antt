@@ -2,8 +2,6 @@
 use Rattle.std.specs.Prelude.{◌≡◌, ℕ, Bool, ◌⊎◌, List, Some, None}
 use Rattle.grid.specs.declared.cell.Cell.{Cell}
 use Rattle.grid.specs.declared.sizes.Sizes.{Sizes}
-use Rattle.grid.specs.Cells.{Marks, FinishedField}
-use Rattle.grid.specs.Distance.{Near}
 use Rattle.grid.specs.Geometry.{Place, IsGrid}
 use Rattle.pictures.specs.Numbered.{marks_by_number}
 use Rattle.pbm.specs.Faults.{FaultyBytes}
@@ -14,26 +12,23 @@ use Rattle.rules.specs.Doors.{spacing_door}
 use Rattle.rules.specs.Formulas.{HasSpacings}
 use Rattle.job.specs.Doors.{start_door}
 use Rattle.job_text.specs.declared.settings.Settings.{Settings}
-use Rattle.reporting.specs.Reports.{near_of}
+use Rattle.rules.specs.Named.{named_near}
+use Rattle.replay.specs.declared.new_cells.FieldError.{FieldError}
+use Rattle.replay.specs.declared.new_cells.FieldError.TheVariants as field
+use Rattle.replay.specs.Whole.{FieldFound}
 use Rattle.volumes.specs.declared.field.VolumeFault.{VolumeFault}
 use Rattle.volumes.specs.declared.field.VolumeFault.TheVariants.{Stack, Refused, NoMemory}
 
--- a cell is marked, and the cells are the finished field: each holds a nearest marked cell and its distance
-pub record FieldFound (near : Near) (s : Sizes) (marks : Marks) (cells : List Cell) : Type 0 where
-  pub some_mark : start_door s marks ≡ None
-  pub finished : FinishedField near s marks cells
-
--- why a field is not found: no cell is marked, or want of memory
-abbrev pub NoField : Sizes → Marks → VolumeFault → Type 0
-NoField s marks (Stack f) = ⊥
-NoField s marks (Refused e) = start_door s marks ≡ Some e
-NoField s marks NoMemory = Unit {0}
+-- a fault of the field is one of the volume
+abbrev pub field_fault : FieldError → VolumeFault
+field_fault (field.Refused e) = Refused e
+field_fault field.NoMemory = NoMemory
 
 -- the cells are the finished field of the marks under the rule and the spacings of the settings
 pub record SetField (settings : Settings) (s : Sizes) (marks : Place → Bool) (cells : List Cell) : Type 0 where
   pub spacings : Spacings
   pub as_set : HasSpacings spacings settings.sx settings.sy settings.sz
-  pub found : FieldFound (near_of settings.rule spacings) s (marks_by_number s marks) cells
+  pub found : FieldFound (named_near settings.rule spacings) s (marks_by_number s marks) cells
 
 -- are the spacings in range? Only then is a field looked for.
 abbrev pub SpacingsFit : Settings → Type 0

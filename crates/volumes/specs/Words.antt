@@ -2,7 +2,7 @@
 use Rattle.std.specs.Prelude.{◌≡◌, ℕ, List}
 use Rattle.numerals.specs.Numerals.{numeral}
 use Rattle.rules.specs.Ranges.{IsSpacing}
-use Rattle.job_text.specs.Jobs.{rule_name}
+use Rattle.rules.specs.Names.{rule_word, NoRuleWord}
 use Rattle.job_text.specs.declared.columns.Column.{Column}
 use Rattle.job_text.specs.declared.columns.Column.TheVariants.{Rule, Sx, Sy, Sz}
 use Rattle.rules.specs.declared.name.RuleName.{RuleName}
@@ -10,10 +10,7 @@ use Rattle.job_text.specs.declared.settings.Settings.{Settings}
 
 -- the word is the name of the rule
 abbrev pub WritesRule : List ℕ → RuleName → Type 0
-WritesRule word n = word ≡ rule_name n
-
-abbrev pub NoRule : List ℕ → Type 0
-NoRule word = (n : RuleName) → WritesRule word n → ⊥
+WritesRule word n = word ≡ rule_word n
 
 -- the word is a spacing from 1 to 10,000 in its decimal digits, with no zero in front
 abbrev pub WritesSpacing : List ℕ → ℕ → Type 0
@@ -38,7 +35,7 @@ SomeSpacing word = (n : ℕ) × WritesSpacing word n
 
 -- the first column whose word is no value of it
 abbrev pub FaultyWord : List ℕ → List ℕ → List ℕ → List ℕ → Column → Type 0
-FaultyWord rule sx sy sz Rule = NoRule rule
+FaultyWord rule sx sy sz Rule = NoRuleWord rule
 FaultyWord rule sx sy sz Sx = SomeRule rule × NoSpacing sx
 FaultyWord rule sx sy sz Sy = SomeRule rule × SomeSpacing sx × NoSpacing sy
 FaultyWord rule sx sy sz Sz = SomeRule rule × SomeSpacing sx × SomeSpacing sy × NoSpacing sz

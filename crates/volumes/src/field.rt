@@ -1,17 +1,16 @@
 // The field of a whole input.
 ghost use Rattle.std.specs.Prelude.{◌≡◌, MatchResult};
-ghost use Rattle.pictures.specs.Numbered.{marks_by_number};
 ghost use Rattle.pbm.specs.Marks.{stack_extent, stack_marks};
-ghost use Rattle.volumes.specs.declared.field.VolumeFault.TheVariants.{Stack, Refused, NoMemory};
-ghost use Rattle.volumes.specs.Volumes.{FieldFound, NoField, SetField, NoSetField, FindsVolume, FaultyVolume};
+ghost use Rattle.volumes.specs.declared.field.VolumeFault.TheVariants.{Stack, Refused};
+ghost use Rattle.volumes.specs.Volumes.{field_fault, SetField, NoSetField, FindsVolume, FaultyVolume};
 
 use grid::{Cell, Refusal, Sizes};
-use job_text::{RuleName, Settings};
+use job_text::Settings;
 use pbm::{Stack, StackFault};
 use pictures::Picture;
-use replay::{Watch, find_field_watched};
-use rules::{Block, Chess, Rule, Square};
-use std::alloc::{AllocError, Global};
+use replay::{FieldError, Watch, find_named_field};
+use rules::Spacings;
+use std::alloc::Global;
 
 /// The field of a stack: its sizes, and for each cell by its number the nearest marked cell and its distance.
 #[derive(Drop)]
@@ -47,29 +46,15 @@ impl From<Refusal> for VolumeFault {
     }
 }
 
-impl From<AllocError> for VolumeFault {
-    ghost from_gives = { λ _ r. r ≡ NoMemory };
+impl From<FieldError> for VolumeFault {
+    ghost from_gives = { λ e r. r ≡ field_fault e };
 
-    fn from(_e: AllocError) -> VolumeFault {
-        VolumeFault::NoMemory
+    fn from(error: FieldError) -> VolumeFault {
+        match error {
+            FieldError::Refused(refusal) => VolumeFault::Refused(refusal),
+            FieldError::NoMemory => VolumeFault::NoMemory,
+        }
     }
-}
-
-/// Finds the field of a picture under a rule, in new cells.
-fn field_of<R: Rule + Drop, P: Picture, W: Watch>(
-    heap: Global,
-    rule: R,
-    picture: &P,
-    watch: &mut W,
-) -> Result<Vec<Cell>, VolumeFault>
-    ensures { MatchResult result (λ v. FieldFound (R.near rule) (P.extent picture.now) (marks_by_number (P.extent picture.now) (P.marks picture.now)) v.items) (λ e. NoField (P.extent picture.now) (marks_by_number (P.extent picture.now) (P.marks picture.now)) e) }
-{
-    let sizes = picture.sizes();
-    let count = sizes.nx * sizes.ny * sizes.nz;
-    let blank = Cell::painted(false, 0);
-    let mut cells = vec![in heap; blank; count as usize]?;
-    find_field_watched(rule, picture, &mut cells, watch).map_err(|kept| kept.refusal)?;
-    Ok(cells)
 }
 
 /// Finds the field of a stack under the rule and the spacings of the settings, which fit.
@@ -82,11 +67,9 @@ fn set_field<W: Watch>(
     ensures { MatchResult result (λ v. SetField settings (stack_extent stack.now) (stack_marks stack.now) v.items) (λ e. NoSetField settings (stack_extent stack.now) (stack_marks stack.now) e) }
 {
     let Settings { rule, sx, sy, sz } = settings;
-    match rule {
-        RuleName::Square => field_of(heap, Square::new(sx, sy, sz)?, stack, watch),
-        RuleName::Block => field_of(heap, Block::new(sx, sy, sz)?, stack, watch),
-        RuleName::Chess => field_of(heap, Chess::new(sx, sy, sz)?, stack, watch),
-    }
+    let spacings = Spacings::new(sx, sy, sz)?;
+    let cells = find_named_field(heap, rule, spacings, stack, watch)?;
+    Ok(cells)
 }
 
 /// Finds the field of an input, which is a stack of images, under the rule and the spacings of the settings: every cell

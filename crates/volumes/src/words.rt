@@ -1,22 +1,10 @@
 // A rule and three spacings, each in a word of its own.
 ghost use Rattle.std.specs.Prelude.{◌≡◌, ℕ, ◌<◌, ◌≤◌, ◌⊎◌, MatchBool, MatchOption, MatchResult};
 ghost use Rattle.rules.specs.Ranges.{IsSpacing};
-ghost use Rattle.volumes.specs.Words.{WritesRule, NoRule, WritesSpacing, NoSpacing, WritesSettings, FaultyWord};
+ghost use Rattle.volumes.specs.Words.{WritesSpacing, NoSpacing, WritesSettings, FaultyWord};
 
 use job_text::{Column, RuleName, Settings};
 use rules::MAX_SPACING;
-
-/// The rule whose name a word is.
-fn read_rule(word: &str) -> Option<RuleName>
-    ensures { MatchOption result (NoRule word.now) (λ n. WritesRule word.now n) }
-{
-    match word {
-        "square" => Some(RuleName::Square),
-        "block" => Some(RuleName::Block),
-        "chess" => Some(RuleName::Chess),
-        _ => None,
-    }
-}
 
 /// Whether an axis can have this spacing.
 fn fits(spacing: u32) -> bool
@@ -48,7 +36,7 @@ fn read_spacing(word: &[u8]) -> Option<u32>
 pub fn read_settings(rule: &str, sx: &str, sy: &str, sz: &str) -> Result<Settings, Column>
     ensures { MatchResult result (λ s. WritesSettings rule.now sx.now sy.now sz.now s) (λ c. FaultyWord rule.now sx.now sy.now sz.now c) }
 {
-    let rule = read_rule(rule).ok_or(Column::Rule)?;
+    let rule = rule.parse::<RuleName>().map_err(|_| Column::Rule)?;
     let sx = read_spacing(sx.as_bytes()).ok_or(Column::Sx)?;
     let sy = read_spacing(sy.as_bytes()).ok_or(Column::Sy)?;
     let sz = read_spacing(sz.as_bytes()).ok_or(Column::Sz)?;
