@@ -1,14 +1,8 @@
 //! What the program is asked for: a rule, sizes, spacings, how cells are marked, how often.
 use anyhow::{Context, anyhow};
 use grid::Sizes;
+use rules::RuleName;
 use std::env;
-
-#[derive(Clone, Copy)]
-pub enum RuleName {
-    Square,
-    Block,
-    Chess,
-}
 
 #[derive(Clone, Copy)]
 pub struct Asked {
@@ -18,15 +12,6 @@ pub struct Asked {
     pub seed: u64,
     pub per_mille: u64,
     pub repeats: u64,
-}
-
-fn rule_named(name: &str) -> anyhow::Result<RuleName> {
-    match name {
-        "square" => Ok(RuleName::Square),
-        "block" => Ok(RuleName::Block),
-        "chess" => Ok(RuleName::Chess),
-        _ => Err(anyhow!("the rule is square, block or chess")),
-    }
 }
 
 fn small(n: u64) -> anyhow::Result<u32> {
@@ -39,7 +24,7 @@ pub fn arguments(rt: &HostRuntime) -> anyhow::Result<Asked> {
     let name = words
         .next()
         .context("RULE NX NY NZ SX SY SZ SEED PER_MILLE REPEATS")?;
-    let rule = rule_named(&name)?;
+    let rule = name.parse::<RuleName>()?;
     let mut numbers = Vec::new(rt.alloc());
     for word in words {
         numbers.push(word.parse::<u64>()?)?;

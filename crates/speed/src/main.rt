@@ -3,37 +3,26 @@
 #![tactic(auto)]
 
 mod asked;
-mod axes;
-mod fill;
-
-ghost use Rattle.std.specs.Prelude.{◌≡◌, length};
-ghost use Rattle.grid.specs.Geometry.{IsGrid, cell_count};
-ghost use Rattle.grid.specs.RowGeometry.{OnAxis};
+mod board;
 
 use anyhow::anyhow;
-use asked::{Asked, RuleName, arguments};
-use axes::work_axis;
-use fill::{fill, sum_of};
-use grid::Cell;
+use asked::{Asked, arguments};
+use board::Board;
+use grid::{Axis, Grid};
 use rows::Room;
-use rules::{Block, Chess, Rule, Square};
+use rules::{Block, Chess, Rule, RuleName, Spacings, Square};
 use std::time::Instant;
 
 /// The seconds that it takes to work all rows of an axis.
 fn time_axis<R: Rule + Copy>(
     rt: &HostRuntime,
     rule: &R,
-    axis: u8,
-    asked: &Asked,
-    cells: &mut [Cell],
+    axis: Axis,
+    board: &mut Board,
     room: &mut Room,
-) -> anyhow::Result<f64>
-    requires axis { OnAxis axis }
-    requires grid { IsGrid asked.now.sizes }
-    requires cells { length cells.old ≡ cell_count asked.now.sizes }
-{
+) -> anyhow::Result<f64> {
     let start = Instant::now(rt)?;
-    let answer = work_axis(rule, axis, asked.sizes, cells, room);
+    let answer = board.work_axis(rule, axis, room);
     let taken = start.elapsed(rt)?.as_secs_f64();
     answer.map_err(|_| anyhow!("a row was refused"))?;
     Ok(taken)
@@ -44,60 +33,40 @@ fn time_grid<R: Rule + Copy>(
     rt: &HostRuntime,
     rule: &R,
     asked: &Asked,
-    cells: &mut [Cell],
-) -> anyhow::Result<()>
-    requires grid { IsGrid asked.now.sizes }
-    requires cells { length cells.old ≡ cell_count asked.now.sizes }
-{
+    board: &mut Board,
+) -> anyhow::Result<()> {
     let mut room = Room::new();
     for _ in 0..asked.repeats {
-        fill(cells, asked.seed, asked.per_mille);
-        let first = time_axis(rt, rule, 1, asked, cells, &mut room)?;
-        let second = time_axis(rt, rule, 2, asked, cells, &mut room)?;
-        let third = time_axis(rt, rule, 3, asked, cells, &mut room)?;
+        board.fill(asked.seed, asked.per_mille);
+        let first = time_axis(rt, rule, Axis { number: 1 }, board, &mut room)?;
+        let second = time_axis(rt, rule, Axis { number: 2 }, board, &mut room)?;
+        let third = time_axis(rt, rule, Axis { number: 3 }, board, &mut room)?;
         let all = first + second + third;
         eprintln!(rt; "{first:.5} {second:.5} {third:.5} {all:.5}")?;
     }
     Ok(())
 }
 
-/// The same under the rule that is asked for.
-fn time_rule(rt: &HostRuntime, asked: &Asked, cells: &mut [Cell]) -> anyhow::Result<()>
-    requires grid { IsGrid asked.now.sizes }
-    requires cells { length cells.old ≡ cell_count asked.now.sizes }
-{
+/// The same under the rule that is asked for. It is one of three types, since `NamedRule`, which chooses for each cell, would
+/// take 5 to 13 percent longer.
+fn time_rule(rt: &HostRuntime, asked: &Asked, board: &mut Board) -> anyhow::Result<()> {
     let (sx, sy, sz) = asked.spacings;
+    let spacings = Spacings::new(sx, sy, sz).map_err(|_| anyhow!(
+        "a spacing is not from 1 to 10000"
+    ))?;
     match asked.rule {
-        RuleName::Square => {
-            let Ok(rule) = Square::new(sx, sy, sz) else {
-                return Err(anyhow!("a spacing is not from 1 to 10000"));
-            };
-            time_grid(rt, &rule, asked, cells)
-        }
-        RuleName::Block => {
-            let Ok(rule) = Block::new(sx, sy, sz) else {
-                return Err(anyhow!("a spacing is not from 1 to 10000"));
-            };
-            time_grid(rt, &rule, asked, cells)
-        }
-        RuleName::Chess => {
-            let Ok(rule) = Chess::new(sx, sy, sz) else {
-                return Err(anyhow!("a spacing is not from 1 to 10000"));
-            };
-            time_grid(rt, &rule, asked, cells)
-        }
+        RuleName::Square => time_grid(rt, &Square::from(spacings), asked, board),
+        RuleName::Block => time_grid(rt, &Block::from(spacings), asked, board),
+        RuleName::Chess => time_grid(rt, &Chess::from(spacings), asked, board),
     }
 }
 
 fn run(rt: &HostRuntime) -> anyhow::Result<()> {
     let asked = arguments(rt)?;
-    let count = asked
-        .sizes
-        .count_cells()
-        .map_err(|_| anyhow!("these are not the sizes of a grid"))?;
-    let mut cells = vec![in rt.alloc(); Cell::painted(false, 0); count as usize]?;
-    time_rule(rt, &asked, &mut cells)?;
-    let sum = sum_of(&cells);
+    let grid = Grid::new(asked.sizes).map_err(|_| anyhow!("these are not the sizes of a grid"))?;
+    let mut board = Board::new(rt.alloc(), grid)?;
+    time_rule(rt, &asked, &mut board)?;
+    let sum = board.sum();
     println!(rt; "{sum}")?;
     Ok(())
 }

@@ -10,22 +10,24 @@ mod script;
 use anyhow::anyhow;
 use grid::Cell;
 use replay::{Answer, Job, Unplayed, replay};
-use rules::{Block, Chess, Rule, Square};
-use script::{RuleName, Script, read_script};
+use rules::{NamedRule, Rule};
+use script::{Script, read_script};
+use std::fmt;
 
-/// A call's line and its answer.
-fn print_answer(rt: &HostRuntime, line: &str, answer: Answer) -> anyhow::Result<()> {
-    match answer {
-        Answer::Done => println!(rt; "{line}: done")?,
-        Answer::Held(Some((point, value))) => println!(rt; "{line}: cell {point} at {value}")?,
-        Answer::Held(None) => println!(rt; "{line}: none")?,
-        Answer::Refused(refusal) => {
-            let number = refusal.number();
-            println!(rt; "{line}: refused {number}")?;
+/// An answer, as it is printed.
+#[derive(Clone, Copy)]
+struct Told(Answer);
+
+impl fmt::Display for Told {
+    fn fmt<W: fmt::Write>(&self, f: &mut fmt::Formatter<W>) -> fmt::Result {
+        match self.0 {
+            Answer::Done => f.write_str("done"),
+            Answer::Held(Some((point, value))) => write!(f, "cell {point} at {value}"),
+            Answer::Held(None) => f.write_str("none"),
+            Answer::Refused(refusal) => write!(f, "refused {}", refusal.number()),
+            Answer::Absent => f.write_str("no such call at this stage"),
         }
-        Answer::Absent => println!(rt; "{line}: no such call at this stage")?,
     }
-    Ok(())
 }
 
 /// The name of the stage that a job is in.
@@ -55,7 +57,8 @@ fn play<R: Rule + Drop>(rt: &HostRuntime, rule: R, script: &Script) -> anyhow::R
     };
     println!(rt; "begin: done")?;
     for (line, answer) in script.lines.iter().zip(answers.iter()) {
-        print_answer(rt, line, *answer)?;
+        let told = Told(*answer);
+        println!(rt; "{line}: {told}")?;
     }
     println!(rt; "the job is {stage}")?;
     Ok(())
@@ -64,20 +67,10 @@ fn play<R: Rule + Drop>(rt: &HostRuntime, rule: R, script: &Script) -> anyhow::R
 /// The same under the rule that the script names.
 fn play_ruled(rt: &HostRuntime, script: &Script) -> anyhow::Result<()> {
     let (sx, sy, sz) = script.ruled.spacings;
-    match script.ruled.rule {
-        RuleName::Square => match Square::new(sx, sy, sz) {
-            Ok(rule) => play(rt, rule, script),
-            Err(_) => Err(anyhow!("a spacing is not from 1 to 10000")),
-        },
-        RuleName::Block => match Block::new(sx, sy, sz) {
-            Ok(rule) => play(rt, rule, script),
-            Err(_) => Err(anyhow!("a spacing is not from 1 to 10000")),
-        },
-        RuleName::Chess => match Chess::new(sx, sy, sz) {
-            Ok(rule) => play(rt, rule, script),
-            Err(_) => Err(anyhow!("a spacing is not from 1 to 10000")),
-        },
-    }
+    let rule = NamedRule::new(script.ruled.rule, sx, sy, sz).map_err(|_| anyhow!(
+        "a spacing is not from 1 to 10000"
+    ))?;
+    play(rt, rule, script)
 }
 
 fn run(rt: &HostRuntime) -> anyhow::Result<()> {

@@ -3,14 +3,7 @@ use crate::brick::Brick;
 use anyhow::{Context, anyhow};
 use grid::Sizes;
 use replay::Call;
-
-/// The rule that a script names.
-#[derive(Clone, Copy)]
-pub(crate) enum RuleName {
-    Square,
-    Block,
-    Chess,
-}
+use rules::RuleName;
 
 /// The first line: a rule and its spacings.
 #[derive(Clone, Copy)]
@@ -51,12 +44,8 @@ fn sizes_of((nx, ny, nz): (u32, u32, u32)) -> Sizes {
 
 /// `square`, `block` or `chess`, and three spacings.
 fn rule_line(rt: &HostRuntime, line: &str) -> anyhow::Result<Ruled> {
-    let rule = match line.split_whitespace().next() {
-        Some("square") => RuleName::Square,
-        Some("block") => RuleName::Block,
-        Some("chess") => RuleName::Chess,
-        _ => return Err(anyhow!("the rule is square, block or chess")),
-    };
+    let word = line.split_whitespace().next().unwrap_or("");
+    let rule = word.parse::<RuleName>()?;
     let spacings = place(&numbers(rt, line)?, 0)?;
     Ok(Ruled { rule, spacings })
 }
