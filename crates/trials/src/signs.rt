@@ -35,12 +35,9 @@ fn all_right<P: Picture>(
     numbers: &[i64],
     turned: &[i64],
 ) -> bool {
-    let sizes = picture.sizes();
-    let cells = 0..sizes.nx * sizes.ny * sizes.nz;
-    cells.zip(numbers.iter().zip(turned.iter())).all(|(k, (a, b))| match sizes.place_of(k) {
-        Some(place) => expected(picture, half, searched, place) == Some(*a)
-            && a.checked_neg() == Some(*b),
-        None => false,
+    let grid = picture.grid();
+    (0..grid.count()).zip(numbers.iter().zip(turned.iter())).all(|(k, (a, b))| {
+        expected(picture, half, searched, grid.place(k)) == Some(*a) && a.checked_neg() == Some(*b)
     })
 }
 
@@ -54,10 +51,7 @@ impl Comparison for SignedFields {
         picture: &P,
     ) -> anyhow::Result<u64> {
         let half = HalfGrid::new(picture).map_err(|_| anyhow!("a half-grid was refused"))?;
-        let (Ok(count), Ok(places)) = (picture.sizes().count_cells(), half.sizes().count_cells())
-        else {
-            return Err(anyhow!("a picture without a grid"));
-        };
+        let (count, places) = (picture.grid().count(), half.grid().count());
         let blank = Cell::painted(false, 0);
         let mut cells = vec![in heap; blank; places as usize]?;
         let mut searched = vec![in heap; blank; places as usize]?;

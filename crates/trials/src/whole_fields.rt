@@ -6,14 +6,15 @@ use exhaustive::search_field;
 use grid::{Cell, Refusal};
 use pictures::{Picture, has_mark};
 use replay::find_field;
-use rules::Rule;
+use rules::{Point, Rule};
 use std::alloc::Global;
 
 /// The distance at a place from another, by the rule's public answers.
 fn distance<R: Rule>(rule: &R, at: (u32, u32, u32), from: (u32, u32, u32)) -> Option<u64> {
-    let one = rule.near(1, from.0, at.0, 0)?;
-    let two = rule.near(2, from.1, at.1, one)?;
-    rule.near(3, from.2, at.2, two)
+    let stands = |place, carried| Point { place, carried };
+    let one = rule.near(1, stands(from.0, 0), at.0)?;
+    let two = rule.near(2, stands(from.1, one), at.1)?;
+    rule.near(3, stands(from.2, two), at.2)
 }
 
 /// Whether the record of a cell is within its limits: level 3, a marked point, at exactly the distance of its value.
@@ -43,10 +44,7 @@ impl Comparison for WholeFields {
         rule: R,
         picture: &P,
     ) -> anyhow::Result<u64> {
-        let count = picture
-            .sizes()
-            .count_cells()
-            .map_err(|_| anyhow!("a picture without a grid"))?;
+        let count = picture.grid().count();
         let blank = Cell::painted(false, 0);
         let mut found = vec![in heap; blank; count as usize]?;
         let mut searched = vec![in heap; blank; count as usize]?;
