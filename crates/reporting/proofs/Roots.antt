@@ -1,26 +1,23 @@
 -- The whole root of a number is the only one between whose square and the next the number lies.
-use Rattle.std.proofs.Common.{◌≡◌, ℕ, zero, suc, ◌+◌, ◌*◌, ◌<◌, ◌≤◌, Bool, true, false, cond, leb, ◌⊎◌, refl, ap, inl, inr, arith}
-use native.Mathlib.Decide.{ℕ_discrete}
+use Rattle.std.proofs.Common.{◌≡◌, ℕ, zero, suc, ◌+◌, ◌*◌, ◌<◌, ◌≤◌, Bool, true, false, cond, leb, refl, ap, inl, inr, arith}
+use Rattle.std.proofs.Math.Nat.{eq-or-lt_of_le}
 use Rattle.std.proofs.lemmas.Bool.{leb-true, leb-false}
 use Rattle.std.proofs.lemmas.Nat.{mul-le}
 use Rattle.reporting.specs.Texts.{root_up_to, whole_root}
-
-lt_or_eq : (a b : ℕ) → a ≤ b → (a < b) ⊎ (a ≡ b)
-lt_or_eq a b h = elim (ℕ_discrete a b) [ yes e ↦ inr e | no ne ↦ inl (omega arith) ]
 
 -- one number more to choose from
 root_more : (n r v : ℕ) (b : Bool) → leb (suc n * suc n) v ≡ b → r ≤ suc n → r * r ≤ v → v < (r + 1) * (r + 1) → (r ≤ n → r ≡ root_up_to n v) → r ≡ cond b (suc n) (root_up_to n v)
 root_more n r v true h le low high below =
     let fits : suc n * suc n ≤ v = leb-true (suc n * suc n) v h in
-    elim (lt_or_eq r (suc n) le) [
-      | inl less ↦ absurd (let up : (r + 1) * (r + 1) ≤ suc n * suc n = mul-le (r + 1) (r + 1) (suc n) (suc n) (omega arith) (omega arith) in omega arith)
-      | inr same ↦ same
+    elim (eq-or-lt_of_le le) [
+      | inr less ↦ absurd (let up : (r + 1) * (r + 1) ≤ suc n * suc n = mul-le (r + 1) (r + 1) (suc n) (suc n) (omega arith) (omega arith) in omega arith)
+      | inl same ↦ same
     ]
 root_more n r v false h le low high below =
     let past : v < suc n * suc n = leb-false (suc n * suc n) v h in
-    elim (lt_or_eq r (suc n) le) [
-      | inl less ↦ below (omega arith)
-      | inr same ↦ absurd (let e : r * r ≡ suc n * suc n = ap (λ (x : ℕ). x * x) same in omega arith)
+    elim (eq-or-lt_of_le le) [
+      | inr less ↦ below (omega arith)
+      | inl same ↦ absurd (let e : r * r ≡ suc n * suc n = ap (λ (x : ℕ). x * x) same in omega arith)
     ]
 
 root_is : (n r v : ℕ) → r ≤ n → r * r ≤ v → v < (r + 1) * (r + 1) → r ≡ root_up_to n v

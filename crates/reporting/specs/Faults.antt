@@ -4,11 +4,20 @@ use Rattle.grid.specs.Refusals.{refusal_number}
 use Rattle.pbm.specs.Causes as stack-fault
 use Rattle.job_text.specs.declared.job.JobFault.{JobFault}
 use Rattle.job_text.specs.declared.job.JobFault.TheVariants.{TooLong, Names, Values}
+use Rattle.replay.specs.declared.new_cells.FieldError.{FieldError}
+use Rattle.replay.specs.declared.new_cells.FieldError.TheVariants as field_error
+use Rattle.reporting.specs.declared.faults.ReportError.{ReportError}
+use Rattle.reporting.specs.declared.faults.ReportError.TheVariants.{Fault, NoMemory}
 use Rattle.reporting.specs.declared.faults.ReportFault.{ReportFault}
 use Rattle.reporting.specs.declared.faults.ReportFault.TheVariants.{Job, Stack, LargeStack, Field}
 use Rattle.reporting.specs.declared.faults.Part.{Part}
 use Rattle.reporting.specs.declared.faults.Part.TheVariants as part
 use Rattle.job_text.specs.Lines.{line_of}
+
+-- what is told where no field is found: that it is refused, or that there is no memory for it
+abbrev pub field_fault : FieldError → ReportError
+field_fault (field_error.Refused e) = Fault (Field e)
+field_fault field_error.NoMemory = NoMemory
 
 abbrev pub part_name : Part → List ℕ
 part_name part.Job = codes "job"

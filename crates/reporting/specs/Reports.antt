@@ -12,14 +12,14 @@ use Rattle.pbm.specs.Faults.{FaultyBytes}
 use Rattle.pbm.specs.Form.{IsStack}
 use Rattle.pbm.specs.Marks.{stack_cells}
 use Rattle.rules.specs.declared.spacings.Spacings.{Spacings}
-use Rattle.rules.specs.Formulas.{HasSpacings, square_near, block_near, chess_near}
+use Rattle.rules.specs.Formulas.{HasSpacings}
+use Rattle.rules.specs.Named.{named_near}
 use Rattle.rules.specs.Ranges.{IsSpacing}
 use Rattle.reporting.specs.declared.faults.ReportError.{ReportError}
 use Rattle.reporting.specs.declared.faults.ReportError.TheVariants.{Fault, NoMemory}
 use Rattle.reporting.specs.declared.faults.ReportFault.{ReportFault}
 use Rattle.reporting.specs.declared.faults.ReportFault.TheVariants.{Job, Stack, LargeStack, Field}
 use Rattle.rules.specs.declared.name.RuleName.{RuleName}
-use Rattle.rules.specs.declared.name.RuleName.TheVariants.{Square, Block, Chess}
 use Rattle.job_text.specs.declared.settings.Settings.{Settings}
 use Rattle.job_text.specs.Jobs.{IsJob, FaultyJob}
 use Rattle.reporting.specs.Texts.{PrintsField}
@@ -29,12 +29,6 @@ pub record SettingsFit (s : Settings) : Type 0 where
   pub on_x : IsSpacing s.sx
   pub on_y : IsSpacing s.sy
   pub on_z : IsSpacing s.sz
-
--- the rule of a name
-abbrev pub near_of : RuleName → Spacings → Near
-near_of Square w = square_near w
-near_of Block w = block_near w
-near_of Chess w = chess_near w
 
 -- the text reports a finished field: each cell has a nearest marked cell of the grid and its distance
 pub record ReportsField (name : RuleName) (near : Near) (s : Sizes) (marks : Marks) (text : List ℕ) : Type 0 where
@@ -46,7 +40,7 @@ pub record ReportsField (name : RuleName) (near : Near) (s : Sizes) (marks : Mar
 pub record ReportsStack (settings : Settings) (s : Sizes) (marks : Place → Bool) (text : List ℕ) : Type 0 where
   pub spacings : Spacings
   pub as_set : HasSpacings spacings settings.sx settings.sy settings.sz
-  pub field : ReportsField settings.rule (near_of settings.rule spacings) s (marks_by_number s marks) text
+  pub field : ReportsField settings.rule (named_near settings.rule spacings) s (marks_by_number s marks) text
 
 -- no cell of the grid is marked
 abbrev pub Unmarked : Sizes → Marks → Type 0

@@ -1,12 +1,13 @@
 // What is wrong with an input, and how it is told.
 ghost use Rattle.std.specs.Prelude.{◌≡◌, Some};
-ghost use Rattle.reporting.specs.Faults.{part_name, fault_part, fault_numbers};
+ghost use Rattle.reporting.specs.Faults.{field_fault, part_name, fault_part, fault_numbers};
 ghost use Rattle.reporting.specs.declared.faults.ReportError.TheVariants.{Fault, NoMemory};
 ghost use Rattle.reporting.specs.declared.faults.ReportFault.TheVariants.{Job};
 
 use grid::Refusal;
 use job_text::JobFault;
 use pbm::StackFault;
+use replay::FieldError;
 use std::alloc::AllocError;
 use std::fmt;
 
@@ -61,6 +62,17 @@ impl From<ReportFault> for ReportError {
 
     fn from(fault: ReportFault) -> ReportError {
         ReportError::Fault(fault)
+    }
+}
+
+impl From<FieldError> for ReportError {
+    ghost from_gives = { λ e r. r ≡ field_fault e };
+
+    fn from(error: FieldError) -> ReportError {
+        match error {
+            FieldError::Refused(refusal) => ReportError::Fault(ReportFault::Field(refusal)),
+            FieldError::NoMemory => ReportError::NoMemory,
+        }
     }
 }
 

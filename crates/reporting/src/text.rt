@@ -1,11 +1,11 @@
 // What is printed: the line of a cell, the report on a field, and a fault.
 ghost use Rattle.std.specs.Prelude.{◌≡◌, ◌++◌, length, IfOk, string_bytes, MatchResult, OnOk};
-ghost use Rattle.grid.specs.Geometry.{IsGrid, cell_count};
+ghost use Rattle.grid.specs.Geometry.{cell_count};
 ghost use Rattle.reporting.specs.Faults.{fault_text_of};
 ghost use Rattle.reporting.specs.Texts.{shown_distance, cell_line, PrintsField, LacksPoint};
 
 use crate::faults::{ReportError, ReportFault};
-use grid::{Cell, Refusal, Sizes};
+use grid::{Cell, Grid, Refusal};
 use job_text::RuleName;
 use std::alloc::{AllocError, Global};
 
@@ -39,18 +39,17 @@ fn push_cell(
 pub fn field_text(
     heap: Global,
     rule: RuleName,
-    sizes: Sizes,
+    grid: Grid,
     cells: &[Cell],
 ) -> Result<String, ReportError>
-    requires grid { IsGrid sizes }
-    requires count { length cells.now ≡ cell_count sizes }
-    ensures { MatchResult result (λ t. PrintsField rule sizes cells.now (string_bytes t)) (λ e. LacksPoint cells.now e) }
+    requires { length cells.now ≡ cell_count grid.sizes }
+    ensures { MatchResult result (λ t. PrintsField rule grid.sizes cells.now (string_bytes t)) (λ e. LacksPoint cells.now e) }
 {
     let mut text = String::from_str(heap, "x y z px py pz value dist\n")?;
     for (number, cell) in cells.iter().enumerate() {
         let point = cell.point.ok_or(ReportFault::Field(Refusal::NoMark))?;
-        let at = sizes.place_in(number as u32);
-        push_cell(&mut text, rule, at, sizes.place_in(point), cell.value)?;
+        let at = grid.place(number as u32);
+        push_cell(&mut text, rule, at, grid.place(point), cell.value)?;
     }
     Ok(text)
 }

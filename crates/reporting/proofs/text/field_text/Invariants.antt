@@ -3,4 +3,4 @@ use Rattle.reporting.specs.Texts.{PrintsBelow}
 use Rattle.reporting.proofs.text.field_text.Given as goal
 
 abbrev pub invariant-loop-number : goal.invariant-loop-number
-invariant-loop-number l = PrintsBelow l.rule l.sizes l.cells l.number (string_bytes l.text)
+invariant-loop-number l = PrintsBelow l.rule l.grid.sizes l.cells l.number (string_bytes l.text)
