@@ -1,9 +1,13 @@
-//! Examples of the report and of every fault of an input, to the byte.
+//! Examples of the report and of every fault of an input, to the byte, and of a field that is found in new cells.
 #![tactic(auto)]
 
 #[cfg(test)]
 mod tests {
+    use grid::{Cell, Refusal, Sizes};
+    use pictures::Grey;
+    use replay::{FieldError, Unwatched, find_new_field};
     use reporting::{ReportError, fault_text, report};
+    use rules::{NamedRule, RuleName};
     use std::alloc::Global;
     use std::process::Abort;
     use std::test::Fail;
@@ -122,5 +126,32 @@ mod tests {
         faults(&rt, heap, &input, "stack 20 1 421")?;
         input.push(0)?;
         faults(&rt, heap, &input, "job 26 0 8192")
+    }
+
+    // The field of six cells in two rows, of which those are marked whose byte is not 0.
+    fn find_six(heap: Global, bytes: &[u8]) -> Result<Vec<Cell>, FieldError> {
+        let sizes = Sizes {
+            nx: 3,
+            ny: 2,
+            nz: 1,
+        };
+        let picture = Grey::new(sizes, 1, bytes)?;
+        let rule = NamedRule::new(RuleName::Square, 2, 2, 2)?;
+        find_new_field(heap, rule, &picture, &mut Unwatched)
+    }
+
+    #[test]
+    fn finds_a_field_in_new_cells(rt: HostRuntime) -> Result<(), Fail> {
+        let heap = rt.alloc();
+        let Ok(cells) = find_six(heap, &[1, 0, 0, 0, 0, 0]) else {
+            return Err(Fail::new("no field"));
+        };
+        assert_eq!(rt; cells.len(), 6);
+        for (cell, value) in cells.iter().zip([0, 4, 16, 4, 8, 20]) {
+            assert_eq!(rt; (cell.point, cell.value), (Some(0), value));
+        }
+        let unmarked = find_six(heap, &[0; 6]);
+        assert_eq!(rt; unmarked.err(), Some(FieldError::Refused(Refusal::NoMark)));
+        Ok(())
     }
 }
