@@ -1,5 +1,8 @@
-ghost use Rattle.std.specs.Prelude.{◌≡◌};
-ghost use Rattle.grid.specs.Refusals.{refusal_number};
+ghost use Rattle.std.specs.Prelude.{◌≡◌, Some};
+ghost use Rattle.grid.specs.Refusals.{refusal_number, refusal_words};
+
+use std::error::Error;
+use std::fmt;
 
 /// Why a call was refused. A call asks its questions in a fixed order, and the first one answered no is the refusal.
 #[derive(Clone, Copy, PartialEq, Eq, Debug)]
@@ -60,3 +63,30 @@ impl Refusal {
         }
     }
 }
+
+/// Says what was wrong, in words.
+impl fmt::Display for Refusal {
+    ghost output = { λ refusal. Some (refusal_words refusal) };
+
+    fn fmt<W: fmt::Write>(&self, f: &mut fmt::Formatter<W>) -> fmt::Result {
+        f.write_str(match self {
+            Refusal::SizeRange => "a size is not from 1 to 1023",
+            Refusal::TooManyCells => "there are more than 16777216 cells",
+            Refusal::CellCount => "there is not one cell for each place of the grid",
+            Refusal::OutsideGrid => "the place is outside the grid",
+            Refusal::OtherSizes => "the picture has other sizes than the job",
+            Refusal::NoMark => "no cell is marked",
+            Refusal::NoSuchRow => "the axis has no row of that number",
+            Refusal::RowLevel => "a cell of the row does not stand at the level below the axis",
+            Refusal::RowValue => "a value in the row is above the ceiling of the rule",
+            Refusal::RowsLeft => "a cell does not stand at the level of the axis yet",
+            Refusal::SpacingRange => "a spacing is not from 1 to 10000",
+            Refusal::ByteCount => "there is not one byte for each cell",
+            Refusal::HalfGridSize => "a size of the picture is above 512",
+            Refusal::OutputCount => "the output has not one number for each cell",
+            Refusal::OneKind => "the picture has not both marked and unmarked cells",
+        })
+    }
+}
+
+impl Error for Refusal {}

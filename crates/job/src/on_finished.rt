@@ -26,6 +26,7 @@ impl<R: Rule> Finished<R> {
     }
 
     /// Leads back to painting: every cell gets its painted record.
+    // `Working` has the same: a trait over the two states would be longer than the match.
     pub fn reopen(self, cells: &mut [Cell]) -> Result<Painting<R>, Kept<Finished<R>>>
         ensures moves { Moves result (lent self.grid.sizes cells.old None) self (IsPainting self.rule self.grid.sizes) }
         ensures leaves { Leaves result cells.old cells.new (painted_cells (marks_in cells.old) (length cells.old)) }

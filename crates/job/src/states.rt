@@ -1,5 +1,7 @@
 use grid::{Axis, Grid, Refusal};
 
+// Each stage is a type of its own, so that the compiler refuses a call that it does not have.
+
 /// A job whose cells are being marked.
 #[derive(Drop)]
 pub struct Painting<R> {

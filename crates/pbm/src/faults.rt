@@ -1,5 +1,7 @@
-ghost use Rattle.std.specs.Prelude.{◌≡◌};
-ghost use Rattle.pbm.specs.Causes.{cause_number, fault_numbers, counted_from};
+ghost use Rattle.std.specs.Prelude.{◌≡◌, Some};
+ghost use Rattle.pbm.specs.Causes.{cause_number, fault_numbers, counted_from, cause_words};
+
+use std::fmt;
 
 /// What is wrong with a stack: the first question answered no.
 #[derive(Clone, Copy, PartialEq, Eq, Debug)]
@@ -36,6 +38,21 @@ impl Cause {
             Cause::OtherSize => 23,
             Cause::TooLarge => 24,
         }
+    }
+}
+
+/// Says what is wrong, in words.
+impl fmt::Display for Cause {
+    ghost output = { λ cause. Some (cause_words cause) };
+
+    fn fmt<W: fmt::Write>(&self, f: &mut fmt::Formatter<W>) -> fmt::Result {
+        f.write_str(match self {
+            Cause::Magic => "an image does not start with P4 and a line feed",
+            Cause::Number => "a width or height is not a plain number from 1 to 1023",
+            Cause::Short => "the input ends before the last row of an image",
+            Cause::OtherSize => "an image has another size than the first",
+            Cause::TooLarge => "there are more than 1023 images or 16777216 cells",
+        })
     }
 }
 

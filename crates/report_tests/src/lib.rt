@@ -5,9 +5,9 @@
 mod tests {
     use grid::{Cell, Refusal, Sizes};
     use pictures::Grey;
-    use replay::{FieldError, Unwatched, find_new_field};
+    use replay::{FieldError, Unwatched, find_named_field, find_new_field};
     use reporting::{ReportError, fault_text, report};
-    use rules::{NamedRule, RuleName};
+    use rules::{NamedRule, RuleName, Spacings};
     use std::alloc::Global;
     use std::process::Abort;
     use std::test::Fail;
@@ -140,6 +140,18 @@ mod tests {
         find_new_field(heap, rule, &picture, &mut Unwatched)
     }
 
+    // The same under the rule of a name.
+    fn find_six_by_name(heap: Global, name: RuleName) -> Result<Vec<Cell>, FieldError> {
+        let sizes = Sizes {
+            nx: 3,
+            ny: 2,
+            nz: 1,
+        };
+        let picture = Grey::new(sizes, 1, &[1, 0, 0, 0, 0, 0])?;
+        let spacings = Spacings::new(2, 2, 2)?;
+        find_named_field(heap, name, spacings, &picture, &mut Unwatched)
+    }
+
     #[test]
     fn finds_a_field_in_new_cells(rt: HostRuntime) -> Result<(), Fail> {
         let heap = rt.alloc();
@@ -148,6 +160,12 @@ mod tests {
         };
         assert_eq!(rt; cells.len(), 6);
         for (cell, value) in cells.iter().zip([0, 4, 16, 4, 8, 20]) {
+            assert_eq!(rt; (cell.point, cell.value), (Some(0), value));
+        }
+        let Ok(by_name) = find_six_by_name(heap, RuleName::Block) else {
+            return Err(Fail::new("no field by name"));
+        };
+        for (cell, value) in by_name.iter().zip([0, 2, 4, 2, 4, 6]) {
             assert_eq!(rt; (cell.point, cell.value), (Some(0), value));
         }
         let unmarked = find_six(heap, &[0; 6]);

@@ -26,6 +26,9 @@ impl Candidate {
     }
 }
 
+// The functions of this crate take the rule and the axis side by side. They were tried as one struct, which borrows the rule:
+// each clause then says `along.entry.rule.now` and `along.entry.axis.number` for `rule.now` and `axis.number`.
+
 /// The lowest place at which `new` is no farther than `old`, or 1023 where there is none.
 pub(crate) fn overtaking<R: Rule>(rule: &R, axis: Axis, old: Candidate, new: Candidate) -> u16
     requires old { Within (R.ceiling rule.now (axis.number - 1)) new.place old }

@@ -1,4 +1,7 @@
 //! The records of a row, by their places in it.
+//!
+//! A row's records stand in the lent slice of all cells, a stride apart, and are read and written there one by one. So the
+//! functions take the slice and the row, and count the places.
 ghost use Rattle.std.specs.Prelude.{◌≡◌, ◌^◌, ◌<◌, length, slice_set};
 ghost use Rattle.grid.specs.RowGeometry.{LiesIn, row_at};
 ghost use Rattle.grid.specs.Rows.{records};
@@ -24,7 +27,7 @@ pub(crate) fn load(cells: &[Cell], row: Row, t: u16) -> Cell
 }
 
 /// The parts of a record, marked, level, point and value, once its row is worked: its mark stays.
-// A record's parts go in and out as a tuple.
+// A record's parts go in and out as a tuple, as places and answers of a look do.
 fn worked_parts(
     parts: (bool, u8, Option<u32>, u64),
     level: u8,

@@ -13,6 +13,8 @@ use crate::rule::Rule;
 use crate::spacings::Spacings;
 use grid::Refusal;
 
+// Square, block and chess are three types, and not one with a parameter: each shows the laws for its own cost.
+
 /// The square rule: a point costs what it carries and the square of its gap.
 #[derive(Clone, Copy)]
 pub struct Square {
