@@ -1,4 +1,4 @@
-use Rattle.std.proofs.Common.{eqb, sym, arith, below_more}
+use Rattle.std.proofs.Common.{eqb, sym, arith}
 use Rattle.std.proofs.lemmas.Bool.{eq-eqb, eqb-true}
 use Rattle.grid.proofs.RowDoors.{all_places_from, not_all_places}
 use Rattle.job.specs.Cells.{levels_in}
@@ -8,9 +8,6 @@ pub returns-then-cell-level : goal.returns-then-cell-level
 returns-then-cell-level c =
     sym (not_all_places (λ k. eqb (levels_in c.args.cells.now k) c.args.level) _ c.loop-cell.cell-index c.loop-cell-test.true
     (λ e. c.if-cell-level.true (eqb-true _ _ e)))
-
-pub loop-cell-preserved : goal.loop-cell-preserved
-loop-cell-preserved c = below_more _ _ c.loop-cell.invariant c.if-cell-level.false
 
 pub returns : goal.returns
 returns c =

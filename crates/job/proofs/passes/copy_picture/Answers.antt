@@ -1,16 +1,9 @@
-use Rattle.std.proofs.Common.{sym, ap, ◌∙◌, arith}
+use Rattle.std.proofs.Common.{ap, ◌∙◌, arith}
 use Rattle.grid.specs.Cells.{painted}
-use Rattle.grid.proofs.Places.{first_place, placed_inside, next_placed}
+use Rattle.grid.proofs.Places.{next_placed}
 use Rattle.pictures.specs.Numbered.{marks_by_number}
 use Rattle.job.proofs.Writing.{written_more, written_all}
 use Rattle.job.proofs.passes.copy_picture.Goals as goal
-
-pub loop-k-init : goal.loop-k-init
-loop-k-init g c = (λ k h. absurd (omega arith), sym (first_place c.args.grid.sizes c.args.grid.is))
-
-pub next-place-requires : goal.next-place-requires
-next-place-requires g c =
-    placed_inside c.args.grid.sizes c.args.grid.is c.loop-k.k c.loop-k.place c.loop-k.invariant.1 (omega (arith, c.loop-k-test.true))
 
 pub loop-k-preserved : goal.loop-k-preserved
 loop-k-preserved g c =
