@@ -20,6 +20,8 @@ pub(crate) fn clear(cells: &mut [Cell])
 }
 
 /// Paints every cell as it is marked now.
+// A loop of its own beside `clear`: one over a closure for the mark would need a clause on what that gave at each cell, longer
+// than either.
 pub(crate) fn repaint(cells: &mut [Cell])
     requires { length cells.old ≤ 16777216 }
     ensures { cells.new ≡ painted_cells (marks_in cells.old) (length cells.old) }

@@ -16,6 +16,7 @@ fn count_images(bytes: &[u8], width: u32, height: u32) -> Result<usize, StackFau
     requires { (rest : List ℕ) × Opens bytes.now width height rest }
     ensures { MatchResult result (λ n. IsStack bytes.now (sizes_of width height n)) (λ f. FaultyBytes bytes.now f) }
 {
+    // Counted by hand: where an image begins is known only once the one before is read, so there is nothing to enumerate.
     let mut rest = bytes;
     let mut images = 0;
     while !rest.is_empty() {
