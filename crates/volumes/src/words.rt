@@ -1,33 +1,19 @@
 // A rule and three spacings, each in a word of its own.
-ghost use Rattle.std.specs.Prelude.{◌≡◌, ℕ, ◌<◌, ◌≤◌, ◌⊎◌, MatchBool, MatchOption, MatchResult};
-ghost use Rattle.rules.specs.Ranges.{IsSpacing};
+ghost use Rattle.std.specs.Prelude.{MatchOption, MatchResult};
 ghost use Rattle.volumes.specs.Words.{WritesSpacing, NoSpacing, WritesSettings, FaultyWord};
 
 use job_text::{Column, RuleName, Settings};
+use numerals::read_digits;
 use rules::MAX_SPACING;
-
-/// Whether an axis can have this spacing.
-fn fits(spacing: u32) -> bool
-    ensures { MatchBool result (IsSpacing spacing) ((spacing < 1) ⊎ (10000 < spacing)) }
-{
-    (1..=MAX_SPACING).contains(&spacing)
-}
 
 /// The spacing whose decimal digits a word is, with no zero in front.
 fn read_spacing(word: &[u8]) -> Option<u32>
     ensures { MatchOption result (NoSpacing word.now) (λ n. WritesSpacing word.now n) }
 {
-    let mut number = 0;
-    for b in word {
-        if !b.is_ascii_digit() {
-            return None;
-        }
-        number = number * 10 + (*b - b'0') as u32;
-        if !fits(number) {
-            return None;
-        }
+    match read_digits(word, MAX_SPACING as u16)? {
+        (spacing, []) => Some(spacing),
+        _ => None,
     }
-    if number == 0 { None } else { Some(number) }
 }
 
 /// The settings that four words give: a rule's name, and the spacings of the three axes in decimal digits.

@@ -1,22 +1,10 @@
-use Rattle.std.proofs.Common.{◌++◌, sym, ap, arith, rules}
-use Rattle.numerals.proofs.Digits.{numeral_none}
-use Rattle.numerals.proofs.Turns.{unread_past, unread_here, unread_out, digit_here}
+use Rattle.std.proofs.Common.{get_or, sym, ap, ◌∙◌, rules}
+use Rattle.numerals.proofs.Reading.{unread_unended}
+use Rattle.numerals.proofs.Turns.{ending_below_digits}
+use Rattle.numerals.proofs.numbers.read_number.Goals.{in_default-via-then-branch-lt1, in_default-via-in_default-len1-up+else-byte}
 use Rattle.numerals.proofs.numbers.read_number.Goals as goal
 
-pub loop-i-init : goal.loop-i-init
-loop-i-init c = (ap (λ xs. xs ++ c.args.text.now) (sym numeral_none), omega arith)
-
-pub returns-then-not-is_ascii_digit : goal.returns-then-not-is_ascii_digit
-returns-then-not-is_ascii_digit c =
-    unread_here c.args.text.now c.loop-i.i c.loop-i.number c.args.most c.args.ending c.loop-i.invariant.0 c.loop-i-test.true c.byte-end.result c.byte-end.ensures c.if-not-is_ascii_digit.ensures.cases c.else-b-end.either
-
-pub returns-then-not-contains : goal.returns-then-not-contains
-returns-then-not-contains c =
-    unread_out c.args.text.now c.loop-i.i c.loop-i.number c.args.most c.args.ending c.loop-i.invariant.0 c.loop-i-test.true c.if-not-is_ascii_digit.ensures.cases (search (rules, c.if-not-contains.ensures.cases))
-
-pub loop-i-preserved : goal.loop-i-preserved
-loop-i-preserved c =
-    (digit_here c.args.text.now c.loop-i.i c.loop-i.number c.args.most c.args.ending c.loop-i.invariant.0 c.loop-i-test.true c.if-not-is_ascii_digit.ensures.cases (search (rules, c.if-not-contains.ensures.cases)), search (rules, c.if-not-contains.ensures.cases))
-
-pub returns : goal.returns
-returns c = unread_past c.args.text.now c.loop-i.i c.loop-i.number c.args.most c.args.ending c.loop-i.invariant.0 c.loop-i-test.false
+pub returns-in_default : goal.returns-in_default
+returns-in_default c =
+    unread_unended _ _ _ _ _ (ending_below_digits c.args.ending) c.in_ok-read_digits.ensures
+    (λ t e. elim c.in_default.branch [ in_default-via-then-branch-lt1 w ↦ search (rules, e) | in_default-via-in_default-len1-up+else-byte w ↦ w.if-byte.false (ap (λ xs. get_or xs 0 0) e ∙ sym w.byte.ensures) ])
