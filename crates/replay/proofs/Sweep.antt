@@ -1,5 +1,5 @@
 -- All rows of all axes: no call is refused, and the field is finished.
-use Rattle.std.proofs.Common.{◌≡◌, ℕ, ◌+◌, ◌-◌, ◌<◌, Bool, true, false, eqb, ltb, leb, List, length, Some, None, Ok, Err, Option, Result, IsOk, sym, refl, ap, ◌∙◌, subst, ⊎_elim, arith}
+use Rattle.std.proofs.Common.{◌≡◌, ℕ, ◌+◌, ◌-◌, ◌<◌, Bool, true, false, eqb, ltb, leb, List, length, Some, None, Ok, Err, Option, Result, IsOk, IsErrAnd, MatchResult, sym, refl, ap, ◌∙◌, subst, ⊎_elim, arith}
 use Rattle.std.proofs.lemmas.Bool.{cases_Bool, cond-true, cond-false, eq-eqb, le-leb, lt-ltb}
 use Rattle.grid.specs.declared.cell.Cell.{Cell}
 use Rattle.grid.specs.declared.refusal.Refusal.{Refusal}
@@ -29,7 +29,7 @@ use Rattle.job.specs.declared.states.Working.{Working}
 use Rattle.job.specs.Cells.{marks_in, levels_in, painted_cells}
 use Rattle.job.specs.Doors.{begin_door, lent, start_door, raise_door, lent_row_door, some_place}
 use Rattle.job.specs.Changes.{Changes}
-use Rattle.job.specs.Moves.{Moves, IsPainting, IsWorking, IsFinished}
+use Rattle.job.specs.Moves.{Moves, Leaves, IsPainting, IsWorking, IsFinished}
 use Rattle.job.proofs.RowWork.{lent_open}
 use Rattle.job.proofs.Writing.{some_place_at}
 use Rattle.replay.specs.Whole.{AxisDone, AllDone, field_door, FindsField}
@@ -40,6 +40,12 @@ use Rattle.replay.proofs.Rowed.{marks_rowed, no_value_refused, which_place}
 pub never_refused : (door : Option Refusal) (e : Refusal) → door ≡ None → door ≡ Some e → ⊥
 never_refused door e none some = let z : ◌≡◌ {A = ℕ} 0 1 = cc in omega arith
 
+-- what came through a change of the refusal alone came through
+pub was_ok : {A E D : Type 0} (S : E → D → Type 0) (r : Result A E) (s : Result A D) (x : A) → MatchResult r (λ y. s ≡ Ok y) (λ e. IsErrAnd s (S e)) → s ≡ Ok x → r ≡ Ok x
+was_ok {D = D} S (Ok y) s x told is =
+    let both : ◌≡◌ {A = Result _ D} (Ok y) (Ok x) = sym told ∙ is in let same : y ≡ x = cc both in ap Ok same
+was_ok S (Err e) s x told is = absurd (subst (λ q. IsErrAnd q (S e)) is told)
+
 -- so a call through it is done
 module _ {X S : Type 0} (r : Result X (Kept S)) (door : Option Refusal) (old : S) (P : X → Type 0) (moves : Moves r door old P) where
   pub moves_on : door ≡ None → IsOk r
@@ -49,8 +55,14 @@ module _ {X S : Type 0} (r : Result X (Kept S)) (door : Option Refusal) (old : S
       go (Ok x) h = refl
       go (Err kept) h = absurd (never_refused door kept.refusal none h.0)
 
+  pub moved_open : (x : X) → r ≡ Ok x → (door ≡ None) × P x
+  moved_open x is = subst (λ q. Moves q door old P) is moves
+
   pub moved_to : (x : X) → r ≡ Ok x → P x
-  moved_to x is = (subst (λ q. Moves q door old P) is moves).1
+  moved_to x is = (moved_open x is).1
+
+pub left_as : {X Y : Type 0} (r : Result X Y) (before after new : List Cell) → Leaves r before after new → (x : X) → r ≡ Ok x → after ≡ new
+left_as r before after new leaves x is = subst (λ q. Leaves q before after new) is leaves
 
 module _ {X : Type 0} (r : Result X Refusal) (door : Option Refusal) (before after : List Cell) (New : Type 0) (changes : Changes r door before after New) where
   pub goes_through : door ≡ None → IsOk r

@@ -51,10 +51,8 @@ pub fn find_new_field<R: Rule + Drop, P: Picture, W: Watch>(
 {
     let count = picture.grid().count() as usize;
     let mut cells = vec![in heap; Cell::painted(false, 0); count]?;
-    match find_field_watched(rule, picture, &mut cells, watch) {
-        Ok(_) => Ok(cells),
-        Err(kept) => Err(FieldError::Refused(kept.refusal)),
-    }
+    find_field_watched(rule, picture, &mut cells, watch).map_err(|kept| kept.refusal)?;
+    Ok(cells)
 }
 
 /// The same under the rule of a name.

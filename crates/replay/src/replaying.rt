@@ -29,10 +29,7 @@ pub fn replay<R: Rule, P: Picture>(
     if answers.len() != calls.len() {
         return Err(Unplayed::AnswerCount(rule));
     }
-    let painting = match begin(rule, sizes, cells) {
-        Ok(painting) => painting,
-        Err(kept) => return Err(Unplayed::Begin(kept)),
-    };
+    let painting = begin(rule, sizes, cells).map_err(Unplayed::Begin)?;
     let mut job = Job::Painting(painting);
     let mut room = Room::new();
     for (i, call) in calls.iter().enumerate() {

@@ -1,22 +1,14 @@
-use Rattle.std.proofs.Common.{◌≡◌, ℕ, ◌<◌, true, ◌≢◌, length, sym, ap, ◌∙◌, subst, arith, get_or-set_other, get_or-set_same, w64, SFits, rules, below_more}
+use Rattle.std.proofs.Common.{◌≡◌, ℕ, ◌<◌, true, ◌≢◌, length, ap, ◌∙◌, subst, arith, get_or-set_other, get_or-set_same, w64, SFits, rules, below_more}
 use Rattle.std.proofs.lemmas.Int.{to_z-of_z}
 use Rattle.grid.specs.declared.sizes.Sizes.{Sizes}
-use Rattle.grid.specs.Geometry.{cell_count, inside, place_of}
-use Rattle.grid.specs.Cells.{cell_at}
-use Rattle.signed.specs.Distances.{doubled_number, with_sign}
-use Rattle.signed.specs.Fields.{number_at}
-use Rattle.grid.proofs.Places.{first_place, placed_inside, next_placed}
+use Rattle.grid.specs.Geometry.{cell_count, inside}
+use Rattle.grid.proofs.Places.{placed_inside, next_placed}
 use Rattle.signed.proofs.Reading.{number_read}
 use Rattle.signed.proofs.numbers.write_numbers.Goals as goal
 
 -- the turns of the loop are the numbers of cells
 is_cell : (s extent : Sizes) (k n : ℕ) → k < n → n ≡ cell_count extent → s ≡ extent → k < cell_count s
 is_cell s extent k n lt room same = omega (arith, ap cell_count same)
-
-pub loop-number-init : goal.loop-number-init
-loop-number-init g c =
-    let p = c.args.picture.now in
-    (λ k h. absurd (omega arith), sym (first_place c.grid-grid.result.sizes c.grid-grid.result.is))
 
 pub number_at-requires : goal.number_at-requires
 number_at-requires g c =
@@ -49,14 +41,3 @@ loop-number-preserved g c =
           (g.P.Picture.marks p) c.args.cells.now c.args.half.sizes c.requires.field.sizes c.number_at.result c.number_at.ensures)),
       next_placed s grid c.loop-number.number-index c.loop-number.place c.loop-number.invariant.1 _ c.next-place.ensures,
     )
-
-pub returns : goal.returns
-returns g c =
-    let output = c.loop-number.output in
-    let cells = c.args.cells.now in
-    let marks = g.P.Picture.marks c.args.picture.now in
-    record {
-      one_each = c.loop-number.auto.output ∙ c.requires.room;
-      each = subst (λ (n : Sizes). (k : ℕ) → k < cell_count n → number_at output k ≡ with_sign (marks (place_of n k)) (cell_at cells (doubled_number n k)).value)
-          c.grid-grid.ensures (λ k h. c.loop-number.invariant.0 k (omega (arith, c.loop-number-test.false, c.requires.room, ap cell_count c.grid-grid.ensures)));
-    }
