@@ -1,5 +1,4 @@
-use Rattle.std.proofs.Common.{sym, subst, arith}
-use Rattle.replay.specs.Jobs.{Sound}
+use Rattle.std.proofs.Common.{arith}
 use Rattle.replay.proofs.Sweep.{was_ok, moved_to, moved_open, left_as}
 use Rattle.replay.proofs.Going.{going_none, going_more, played}
 use Rattle.replay.proofs.replaying.replay.Goals as goal
@@ -9,10 +8,6 @@ loop-i-init g c =
     let here = was_ok _ c.begin.result c.map_err.result c.in_ok-painting.painting c.map_err.ensures.cases c.in_ok-painting.was in
     going_none g.P.Picture.extent g.P.Picture.marks g.R.Rule.near c.args.rule c.args.sizes c.args.calls.now c.args.answers.now
     c.in_ok-painting.painting c.begin.new.cells (moved_to _ _ _ _ c.begin.ensures.moves c.in_ok-painting.painting here) (left_as _ _ _ _ c.begin.ensures.leaves c.in_ok-painting.painting here)
-
-pub call-next-requires : goal.call-next-requires
-call-next-requires g c =
-    subst (λ r. Sound (g.R.Rule.near r) c.loop-i.job c.loop-i.cells) (sym c.loop-i.invariant.same_rule) c.loop-i.invariant.sound
 
 pub loop-i-preserved : goal.loop-i-preserved
 loop-i-preserved g c =

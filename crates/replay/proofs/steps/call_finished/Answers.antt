@@ -1,10 +1,5 @@
-use Rattle.replay.proofs.Turns.{field_reopened, look_refused}
+use Rattle.replay.proofs.Turns.{field_reopened}
 use Rattle.replay.proofs.steps.call_finished.Goals as goal
-
-pub returns-in-Err : goal.returns-in-Err
-returns-in-Err g c =
-    look_refused g.P.Picture.extent g.P.Picture.marks (g.R.Rule.near c.args.job.rule) c.args.job c.args.cells.now c.requires
-    c.args.call.now c.in-Look.place c.in-Err.refusal c.in-Look.is c.in-Err.ensures
 
 pub returns-in-Ok-reopen : goal.returns-in-Ok-reopen
 returns-in-Ok-reopen g c =

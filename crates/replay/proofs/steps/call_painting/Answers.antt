@@ -1,4 +1,4 @@
-use Rattle.replay.proofs.Turns.{mark_called, wipe_called, load_called, start_called, start_refused}
+use Rattle.replay.proofs.Turns.{mark_called, wipe_called, load_called, start_called}
 use Rattle.replay.proofs.steps.call_painting.Goals as goal
 
 pub returns-in-Mark : goal.returns-in-Mark
@@ -21,9 +21,3 @@ returns-in-Ok g c =
     let h = c.in-Ok.ensures in
     start_called g.P.Picture.extent g.P.Picture.marks (g.R.Rule.near c.args.job.rule) c.args.job c.args.cells.now c.requires
     c.args.call.now c.in-Ok.next c.in-Start.is h.0 h.1
-
-pub returns-in-Err : goal.returns-in-Err
-returns-in-Err g c =
-    let h = c.in-Err.ensures in
-    start_refused g.P.Picture.extent g.P.Picture.marks (g.R.Rule.near c.args.job.rule) c.args.job c.args.cells.now c.requires
-    c.args.call.now c.in-Err.kept.state c.in-Err.kept.refusal c.in-Start.is h.0 h.1

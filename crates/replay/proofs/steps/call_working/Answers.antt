@@ -1,4 +1,4 @@
-use Rattle.replay.proofs.Turns.{row_called, raise_called, raise_refused, work_reopened}
+use Rattle.replay.proofs.Turns.{row_called, raise_called, work_reopened}
 use Rattle.replay.proofs.steps.call_working.Goals as goal
 
 pub returns-in-Row : goal.returns-in-Row
@@ -13,12 +13,6 @@ returns-in-Ok g c =
     let h = c.in-Ok.ensures in
     raise_called g.P.Picture.extent g.P.Picture.marks (g.R.Rule.near c.args.job.rule) c.args.job c.args.cells.now c.requires
     c.args.call.now c.in-Ok.raised c.from.result c.in-Raise.is c.from.ensures h.0 h.1
-
-pub returns-in-Err : goal.returns-in-Err
-returns-in-Err g c =
-    let h = c.in-Err.ensures in
-    raise_refused g.P.Picture.extent g.P.Picture.marks (g.R.Rule.near c.args.job.rule) c.args.job c.args.cells.now c.requires
-    c.args.call.now c.in-Err.kept.state c.in-Err.kept.refusal c.in-Raise.is h.0 h.1
 
 pub returns-in-Ok-reopen : goal.returns-in-Ok-reopen
 returns-in-Ok-reopen g c =
