@@ -1,5 +1,5 @@
 -- What is copied out of a finished field.
-use Rattle.std.proofs.Common.{◌≡◌, ℕ, ◌<◌, Bool, true, ◌&&◌, eqb, List, length, get_or, is_some, None, Ok, Err, IsOk, Decides, Option, Result, sym, refl, ap, ◌∙◌, subst, arith}
+use Rattle.std.proofs.Common.{◌≡◌, ℕ, ◌<◌, Bool, true, ◌&&◌, eqb, List, length, get_or, is_some, None, Decides, Option, sym, ap, ◌∙◌, subst, arith}
 use Rattle.std.proofs.lemmas.Bool.{and_from, cond-true, eq-eqb}
 use Rattle.std.proofs.lemmas.Bool.Decides.{same_from_decides}
 use Rattle.grid.specs.declared.cell.Cell.{Cell}
@@ -7,25 +7,16 @@ use Rattle.grid.specs.declared.refusal.Refusal.TheVariants as refusal
 use Rattle.grid.specs.declared.sizes.Sizes.{Sizes}
 use Rattle.grid.specs.Geometry.{Place, IsGrid, cell_count, cell_number}
 use Rattle.grid.specs.Distance.{Near}
-use Rattle.grid.specs.Cells.{Marks, Answers, Nearest, FinishedField, cell_at}
+use Rattle.grid.specs.Cells.{Answers, Nearest, FinishedField, cell_at}
 use Rattle.grid.specs.Doors.{unless}
 use Rattle.grid.proofs.Places.{number_inside, place_back}
 use Rattle.pictures.specs.Kinds.{SomeMarked}
 use Rattle.pictures.specs.Numbered.{marks_by_number}
 use Rattle.job.specs.Doors.{some_place}
 use Rattle.fields.proofs.Agreement.{mark_reaches_all}
-use Rattle.job.specs.declared.states.Finished.{Finished}
-use Rattle.job.specs.declared.states.Kept.{Kept}
-use Rattle.replay.specs.Whole.{field_door, FindsField}
-use Rattle.replay.proofs.Sweep.{never_refused, some_mark, mark_from}
+use Rattle.replay.proofs.Sweep.{some_mark, mark_from}
 use Rattle.cadzvigu.specs.Doors.{field_questions}
 use Rattle.cadzvigu.specs.Nearests.{CopiesCells, HoldsNearest}
-
--- where every question is answered, a field is found
-pub is_found : {R : Type 0} (r : Result (Finished R) (Kept R)) (near : Near) (rule : R) (s : Sizes) (marks : Marks) (before after : List Cell)
-    → field_door s marks before ≡ None → FindsField r near rule s marks before after → IsOk r × FinishedField near s marks after
-is_found (Ok f) near rule s marks before after passed h = (refl, h.2)
-is_found (Err kept) near rule s marks before after passed h = absurd (never_refused _ kept.refusal passed h.0)
 
 module _ (near : Near) (s : Sizes) (marks : Place → Bool) (cells : List Cell) (field : FinishedField near s (marks_by_number s marks) cells) where
   -- where a cell is marked, every cell has a point

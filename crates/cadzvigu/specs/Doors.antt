@@ -9,10 +9,10 @@ use Rattle.grid.specs.Doors.{unless}
 use Rattle.job.specs.Doors.{start_door}
 use Rattle.pictures.specs.Doors.{grey_door, half_grid_door}
 use Rattle.rules.specs.Doors.{spacing_door}
+use Rattle.rules.specs.Names.{is_rule_number}
 use Rattle.signed.specs.Doors.{and_then, both_kinds}
 use Rattle.cadzvigu.specs.declared.fault.Fault.{Fault}
 use Rattle.cadzvigu.specs.declared.fault.Fault.TheVariants.{Refused, UnknownRule}
-use Rattle.cadzvigu.specs.RuleKinds.{is_rule_number}
 use Rattle.cadzvigu.specs.Nearests.{byte_cells, byte_marks}
 
 abbrev pub sizes_of : ℕ → ℕ → ℕ → Sizes

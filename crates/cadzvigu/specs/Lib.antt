@@ -1,4 +1,3 @@
-pub mod RuleKinds
 pub mod Statuses
 pub mod Doors
 pub mod Nearests

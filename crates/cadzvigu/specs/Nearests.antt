@@ -7,10 +7,11 @@ use Rattle.grid.specs.Distance.{Near}
 use Rattle.grid.specs.Cells.{Marks, Nearest, cell_at}
 use Rattle.pictures.specs.Greys.{grey_cells}
 use Rattle.pictures.specs.Numbered.{marks_by_number}
+use Rattle.rules.specs.declared.name.RuleName.{RuleName}
 use Rattle.rules.specs.declared.spacings.Spacings.{Spacings}
 use Rattle.rules.specs.Formulas.{HasSpacings}
-use Rattle.cadzvigu.specs.declared.rule_kind.RuleKind.{RuleKind}
-use Rattle.cadzvigu.specs.RuleKinds.{rule_number, near_of}
+use Rattle.rules.specs.Named.{named_near}
+use Rattle.rules.specs.Names.{rule_number}
 
 -- the marked cells: those whose byte, one for each cell in the order of the cell numbers, is not 0
 abbrev pub byte_cells : Sizes → List ℕ → Place → Bool
@@ -38,8 +39,8 @@ NearestOfBytes near s bytes values points = HoldsNearest near s (byte_marks s by
 
 -- the same under the rule with a number, over three spacings
 pub record NearestBy (rule : ℕ) (spacings : ℕ × ℕ × ℕ) (s : Sizes) (bytes values points : List ℕ) : Type 0 where
-  pub kind : RuleKind
+  pub kind : RuleName
   pub numbered : rule ≡ rule_number kind
   pub over : Spacings
   pub as_given : HasSpacings over spacings.0 spacings.1 spacings.2
-  pub field : NearestOfBytes (near_of kind over) s bytes values points
+  pub field : NearestOfBytes (named_near kind over) s bytes values points

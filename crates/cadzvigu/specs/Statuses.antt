@@ -1,6 +1,8 @@
 -- How a call ends, and the status number by which it says so.
 use Rattle.std.specs.Prelude.{◌≡◌, ℕ, Some, None, Ok, Err, Option, Result}
 use Rattle.grid.specs.Refusals.{refusal_number}
+use Rattle.replay.specs.declared.new_cells.FieldError.{FieldError}
+use Rattle.replay.specs.declared.new_cells.FieldError.TheVariants as field
 use Rattle.cadzvigu.specs.declared.fault.Fault.{Fault}
 use Rattle.cadzvigu.specs.declared.fault.Fault.TheVariants.{Refused, UnknownRule, NoMemory}
 
@@ -8,6 +10,11 @@ abbrev pub fault_number : Fault → ℕ
 fault_number (Refused e) = refusal_number e
 fault_number UnknownRule = 100
 fault_number NoMemory = 101
+
+-- why a field is not found, told as the fault of a call
+abbrev pub field_fault : FieldError → Fault
+field_fault (field.Refused e) = Refused e
+field_fault field.NoMemory = NoMemory
 
 -- 0 is that all is done
 abbrev pub status_number : {T : Type 0} → Result T Fault → ℕ

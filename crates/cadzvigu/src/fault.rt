@@ -1,8 +1,10 @@
 ghost use Rattle.std.specs.Prelude.{◌≡◌};
-ghost use Rattle.cadzvigu.specs.Statuses.{fault_number, status_number};
-ghost use Rattle.cadzvigu.specs.declared.fault.Fault.TheVariants.{Refused, NoMemory};
+ghost use Rattle.cadzvigu.specs.Statuses.{fault_number, status_number, field_fault};
+ghost use Rattle.cadzvigu.specs.declared.fault.Fault.TheVariants.{Refused, NoMemory, UnknownRule};
 
 use grid::Refusal;
+use replay::FieldError;
+use rules::UnknownRule;
 use std::alloc::AllocError;
 
 /// Why a call has no answer.
@@ -29,6 +31,25 @@ impl From<AllocError> for Fault {
 
     fn from(_e: AllocError) -> Fault {
         Fault::NoMemory
+    }
+}
+
+impl From<UnknownRule> for Fault {
+    ghost from_gives = { λ _ r. r ≡ UnknownRule };
+
+    fn from(_unknown: UnknownRule) -> Fault {
+        Fault::UnknownRule
+    }
+}
+
+impl From<FieldError> for Fault {
+    ghost from_gives = { λ e r. r ≡ field_fault e };
+
+    fn from(error: FieldError) -> Fault {
+        match error {
+            FieldError::Refused(refusal) => Fault::Refused(refusal),
+            FieldError::NoMemory => Fault::NoMemory,
+        }
     }
 }
 

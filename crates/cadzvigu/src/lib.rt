@@ -4,7 +4,6 @@
 
 mod fault;
 mod nearest_points;
-mod rule_kind;
 mod skin;
 #[cfg(test)]
 mod tests;
@@ -13,6 +12,5 @@ mod writing;
 
 pub use fault::{Fault, status};
 pub use nearest_points::nearest;
-pub use rule_kind::RuleKind;
 pub use skin::signed_distances;
 pub use theorems::statuses_differ;

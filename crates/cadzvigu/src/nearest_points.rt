@@ -1,6 +1,6 @@
 // The nearest marked cell of each cell.
 ghost use Rattle.std.specs.Prelude.{◌≡◌, length};
-ghost use Rattle.grid.specs.Geometry.{cell_count};
+ghost use Rattle.grid.specs.Doors.{Admits};
 ghost use Rattle.pictures.specs.Kinds.{SomeMarked};
 ghost use Rattle.pictures.specs.Numbered.{marks_by_number};
 ghost use Rattle.cadzvigu.specs.Doors.{refused_by, field_questions, nearest_questions, nearest_door};
@@ -8,30 +8,25 @@ ghost use Rattle.cadzvigu.specs.Statuses.{Ends};
 ghost use Rattle.cadzvigu.specs.Nearests.{HoldsNearest, NearestOfBytes, NearestBy};
 
 use crate::fault::Fault;
-use crate::rule_kind::RuleKind;
 use crate::writing::write_field;
-use grid::{Cell, Refusal, Sizes};
+use grid::{Refusal, Sizes};
 use pictures::{Grey, Picture, has_mark};
-use replay::find_field;
-use rules::{Block, Chess, Rule, Square};
+use replay::{Unwatched, find_new_field};
+use rules::{Block, Chess, Rule, RuleName, Spacings, Square};
 use std::alloc::Global;
 
-/// Finds the field of a picture that has a mark in lent cells, one for each of the picture's, and copies it out.
-fn fill_field<R: Rule + Drop, P: Picture>(
-    rule: R,
-    picture: &P,
-    cells: &mut [Cell],
-    values: &mut [u64],
-    points: &mut [u32],
-)
-    requires cells { length cells.old ≡ cell_count (P.extent picture.now) }
-    requires values { length values.old ≡ cell_count (P.extent picture.now) }
-    requires points { length points.old ≡ cell_count (P.extent picture.now) }
-    requires mark { SomeMarked (P.extent picture.now) (P.marks picture.now) }
-    ensures { HoldsNearest (R.near rule) (P.extent picture.now) (marks_by_number (P.extent picture.now) (P.marks picture.now)) values.new points.new }
+/// Whether there is one value and one point for each cell of a picture, and a cell is marked.
+fn check_outputs<P: Picture>(picture: &P, values: &[u64], points: &[u32]) -> Result<(), Refusal>
+    ensures { Admits result (field_questions (P.extent picture.now) (marks_by_number (P.extent picture.now) (P.marks picture.now)) (length values.now) (length points.now)) (λ _. SomeMarked (P.extent picture.now) (P.marks picture.now)) }
 {
-    find_field(rule, picture, cells).unwrap();
-    write_field(cells, values, points);
+    let grid = picture.grid();
+    if !grid.fits(values) || !grid.fits(points) {
+        return Err(Refusal::OutputCount);
+    }
+    if !has_mark(picture) {
+        return Err(Refusal::NoMark);
+    }
+    Ok(())
 }
 
 /// Finds the field of a picture under a rule. Refused where there is not one value and one point for each cell (14), then
@@ -45,17 +40,10 @@ fn nearest_in<R: Rule + Drop, P: Picture>(
 ) -> Result<(), Fault>
     ensures { Ends result (refused_by (field_questions (P.extent picture.now) (marks_by_number (P.extent picture.now) (P.marks picture.now)) (length values.old) (length points.old))) ((values.new ≡ values.old) × (points.new ≡ points.old)) (HoldsNearest (R.near rule) (P.extent picture.now) (marks_by_number (P.extent picture.now) (P.marks picture.now)) values.new points.new) }
 {
-    let sizes = picture.sizes();
-    let count = (sizes.nx * sizes.ny * sizes.nz) as usize;
-    if values.len() != count || points.len() != count {
-        return Err(Fault::Refused(Refusal::OutputCount));
-    }
-    if !has_mark(picture) {
-        return Err(Fault::Refused(Refusal::NoMark));
-    }
-    let blank = Cell::painted(false, 0);
-    let mut cells = vec![in heap; blank; count]?;
-    fill_field(rule, picture, &mut cells, values, points);
+    // asked before the cells are taken: want of memory is told only where every question is answered
+    check_outputs(picture, values, points)?;
+    let cells = find_new_field(heap, rule, picture, &mut Unwatched)?;
+    write_field(&cells, values, points);
     Ok(())
 }
 
@@ -86,18 +74,21 @@ pub fn nearest(
 ) -> Result<(), Fault>
     ensures { Ends result (nearest_door rule spacings sizes bytes.now (length values.old) (length points.old)) ((values.new ≡ values.old) × (points.new ≡ points.old)) (NearestBy rule spacings sizes bytes.now values.new points.new) }
 {
+    let name = RuleName::try_from(rule)?;
     let (sx, sy, sz) = spacings;
-    match RuleKind::try_from(rule)? {
-        RuleKind::Square => {
-            let square = Square::new(sx, sy, sz)?;
+    let spacings = Spacings::new(sx, sy, sz)?;
+    // a call for each rule: with one `NamedRule`, which matches its name at each point, it took 3 to 11 percent longer
+    match name {
+        RuleName::Square => {
+            let square = Square::from(spacings);
             nearest_of_bytes(heap, square, sizes, bytes, values, points)
         }
-        RuleKind::Block => {
-            let block = Block::new(sx, sy, sz)?;
+        RuleName::Block => {
+            let block = Block::from(spacings);
             nearest_of_bytes(heap, block, sizes, bytes, values, points)
         }
-        RuleKind::Chess => {
-            let chess = Chess::new(sx, sy, sz)?;
+        RuleName::Chess => {
+            let chess = Chess::from(spacings);
             nearest_of_bytes(heap, chess, sizes, bytes, values, points)
         }
     }

@@ -1,56 +1,28 @@
 // The signed distance of each cell from the skin between marked and unmarked cells.
-ghost use Rattle.std.specs.Prelude.{◌≡◌, length, None};
-ghost use Rattle.grid.specs.Geometry.{cell_count};
+ghost use Rattle.std.specs.Prelude.{◌≡◌, length};
 ghost use Rattle.grid.specs.Doors.{Admits};
-ghost use Rattle.pictures.specs.Doors.{half_grid_door};
-ghost use Rattle.pictures.specs.Faces.{half_sizes};
-ghost use Rattle.signed.specs.Doors.{signed_door};
 ghost use Rattle.cadzvigu.specs.Doors.{refused_by, numbers_door, skin_questions, signed_questions, signed_call_door};
 ghost use Rattle.cadzvigu.specs.Statuses.{Ends};
 ghost use Rattle.cadzvigu.specs.Skins.{HoldsSigned, SignedOfBytes, SignedBy};
 
 use crate::fault::Fault;
-use crate::rule_kind::RuleKind;
 use grid::{Cell, Refusal, Sizes};
 use pictures::{Grey, HalfGrid, Picture, has_both_kinds};
-use rules::{Block, Chess, Rule, Square};
+use rules::{Block, Chess, Rule, RuleName, Spacings, Square};
 use signed::signed;
 use std::alloc::Global;
 
-/// How many places the half-grid of a picture has.
-fn count_half_places<P: Picture>(picture: &P) -> Result<usize, Refusal>
-    ensures { Admits result (half_grid_door (P.extent picture.now)) (λ n. n ≡ cell_count (half_sizes (P.extent picture.now))) }
+/// Whether there is one number for each cell of a picture, and the picture has both kinds of cell.
+fn check_numbers<P: Picture>(picture: &P, numbers: &[i64]) -> Result<(), Refusal>
+    ensures { Admits result (numbers_door (P.extent picture.now) (P.marks picture.now) (length numbers.now)) (λ _. Unit {0}) }
 {
-    let half = HalfGrid::new(picture)?;
-    let sizes = half.sizes();
-    Ok((sizes.nx * sizes.ny * sizes.nz) as usize)
-}
-
-/// Whether so many numbers are one for each cell of a picture, and the picture has both kinds of cell.
-fn check_numbers<P: Picture>(picture: &P, numbers: usize) -> Result<(), Refusal>
-    ensures { Admits result (numbers_door (P.extent picture.now) (P.marks picture.now) numbers) (λ _. Unit {0}) }
-{
-    let sizes = picture.sizes();
-    if numbers != (sizes.nx * sizes.ny * sizes.nz) as usize {
+    if !picture.grid().fits(numbers) {
         return Err(Refusal::OutputCount);
     }
     if !has_both_kinds(picture) {
         return Err(Refusal::OneKind);
     }
     Ok(())
-}
-
-/// Fills the numbers with the signed distances of a picture, in lent cells, where all questions are answered.
-fn fill_signed<R: Rule + Drop, P: Picture>(
-    rule: R,
-    picture: &P,
-    cells: &mut [Cell],
-    numbers: &mut [i64],
-)
-    requires { signed_door (P.extent picture.now) (P.marks picture.now) (length cells.old) (length numbers.old) ≡ None }
-    ensures { HoldsSigned (R.near rule) (P.extent picture.now) (P.marks picture.now) numbers.new }
-{
-    signed(picture, rule, cells, numbers).unwrap();
 }
 
 /// Finds the signed distances of a picture under a rule. Refused where a size is above 512 (13), the half-grid has more than
@@ -63,11 +35,10 @@ fn signed_in<R: Rule + Drop, P: Picture>(
 ) -> Result<(), Fault>
     ensures { Ends result (refused_by (skin_questions (P.extent picture.now) (P.marks picture.now) (length numbers.old))) (numbers.new ≡ numbers.old) (HoldsSigned (R.near rule) (P.extent picture.now) (P.marks picture.now) numbers.new) }
 {
-    let count = count_half_places(picture)?;
-    check_numbers(picture, numbers.len())?;
-    let blank = Cell::painted(false, 0);
-    let mut cells = vec![in heap; blank; count]?;
-    fill_signed(rule, picture, &mut cells, numbers);
+    let half = HalfGrid::new(picture)?.grid();
+    check_numbers(picture, numbers)?;
+    let mut cells = vec![in heap; Cell::painted(false, 0); half.count() as usize]?;
+    signed(picture, rule, &mut cells, numbers).unwrap();
     Ok(())
 }
 
@@ -96,19 +67,13 @@ pub fn signed_distances(
 ) -> Result<(), Fault>
     ensures { Ends result (signed_call_door rule spacings sizes bytes.now (length numbers.old)) (numbers.new ≡ numbers.old) (SignedBy rule spacings sizes bytes.now numbers.new) }
 {
+    let name = RuleName::try_from(rule)?;
     let (sx, sy, sz) = spacings;
-    match RuleKind::try_from(rule)? {
-        RuleKind::Square => {
-            let square = Square::new(sx, sy, sz)?;
-            signed_of_bytes(heap, square, sizes, bytes, numbers)
-        }
-        RuleKind::Block => {
-            let block = Block::new(sx, sy, sz)?;
-            signed_of_bytes(heap, block, sizes, bytes, numbers)
-        }
-        RuleKind::Chess => {
-            let chess = Chess::new(sx, sy, sz)?;
-            signed_of_bytes(heap, chess, sizes, bytes, numbers)
-        }
+    let spacings = Spacings::new(sx, sy, sz)?;
+    // a call for each rule: with one `NamedRule`, which matches its name at each point, it took 3 to 11 percent longer
+    match name {
+        RuleName::Square => signed_of_bytes(heap, Square::from(spacings), sizes, bytes, numbers),
+        RuleName::Block => signed_of_bytes(heap, Block::from(spacings), sizes, bytes, numbers),
+        RuleName::Chess => signed_of_bytes(heap, Chess::from(spacings), sizes, bytes, numbers),
     }
 }

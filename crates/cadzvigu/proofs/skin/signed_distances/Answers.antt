@@ -1,27 +1,27 @@
 use Rattle.std.proofs.Common.{length, ap, ◌∙◌}
-use Rattle.cadzvigu.specs.declared.rule_kind.RuleKind.TheVariants.{Square, Block, Chess}
+use Rattle.rules.specs.declared.name.RuleName.TheVariants.{Square, Block, Chess}
+use Rattle.rules.specs.Names.{rule_number}
 use Rattle.cadzvigu.specs.Doors.{signed_questions}
-use Rattle.cadzvigu.specs.RuleKinds.{rule_number}
 use Rattle.cadzvigu.proofs.Ending.{under_rule}
 use Rattle.cadzvigu.proofs.skin.signed_distances.Goals as goal
 
-pub returns-in_ok-square-in-Square : goal.returns-in_ok-square-in-Square
-returns-in_ok-square-in-Square c =
-    let named = c.in_ok-try_from.ensures ∙ ap rule_number c.in-Square.is in
-    let made = c.in_ok-square-in-Square.ensures in
+pub returns-in-Square : goal.returns-in-Square
+returns-in-Square c =
+    let made = c.in_ok-spacings.ensures in
+    let named = c.in_ok-name.ensures ∙ ap rule_number c.in-Square.is in
     under_rule c.signed_of_bytes.result c.args.rule Square named c.args.spacings made.0 (signed_questions c.args.sizes c.args.bytes.now (length c.args.numbers.now)) _ _ _
-    (λ field. record { kind = Square; numbered = named; over = c.in_ok-square-in-Square.square.spacings; as_given = made.1; field = field }) c.signed_of_bytes.ensures
+    (λ field. record { kind = Square; numbered = named; over = c.from.result.spacings; as_given = rw c.from.ensures made.1; field = field }) c.signed_of_bytes.ensures
 
-pub returns-in_ok-block-in-Block : goal.returns-in_ok-block-in-Block
-returns-in_ok-block-in-Block c =
-    let named = c.in_ok-try_from.ensures ∙ ap rule_number c.in-Block.is in
-    let made = c.in_ok-block-in-Block.ensures in
+pub returns-in-Block : goal.returns-in-Block
+returns-in-Block c =
+    let made = c.in_ok-spacings.ensures in
+    let named = c.in_ok-name.ensures ∙ ap rule_number c.in-Block.is in
     under_rule c.signed_of_bytes-in-Block.result c.args.rule Block named c.args.spacings made.0 (signed_questions c.args.sizes c.args.bytes.now (length c.args.numbers.now)) _ _ _
-    (λ field. record { kind = Block; numbered = named; over = c.in_ok-block-in-Block.block.spacings; as_given = made.1; field = field }) c.signed_of_bytes-in-Block.ensures
+    (λ field. record { kind = Block; numbered = named; over = c.from-in-Block.result.spacings; as_given = rw c.from-in-Block.ensures made.1; field = field }) c.signed_of_bytes-in-Block.ensures
 
-pub returns-in_ok-chess-in-Chess : goal.returns-in_ok-chess-in-Chess
-returns-in_ok-chess-in-Chess c =
-    let named = c.in_ok-try_from.ensures ∙ ap rule_number c.in-Chess.is in
-    let made = c.in_ok-chess-in-Chess.ensures in
+pub returns-in-Chess : goal.returns-in-Chess
+returns-in-Chess c =
+    let made = c.in_ok-spacings.ensures in
+    let named = c.in_ok-name.ensures ∙ ap rule_number c.in-Chess.is in
     under_rule c.signed_of_bytes-in-Chess.result c.args.rule Chess named c.args.spacings made.0 (signed_questions c.args.sizes c.args.bytes.now (length c.args.numbers.now)) _ _ _
-    (λ field. record { kind = Chess; numbered = named; over = c.in_ok-chess-in-Chess.chess.spacings; as_given = made.1; field = field }) c.signed_of_bytes-in-Chess.ensures
+    (λ field. record { kind = Chess; numbered = named; over = c.from-in-Chess.result.spacings; as_given = rw c.from-in-Chess.ensures made.1; field = field }) c.signed_of_bytes-in-Chess.ensures
