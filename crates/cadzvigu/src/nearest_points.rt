@@ -3,6 +3,7 @@ ghost use Rattle.std.specs.Prelude.{◌≡◌, length};
 ghost use Rattle.grid.specs.Doors.{Admits};
 ghost use Rattle.pictures.specs.Kinds.{SomeMarked};
 ghost use Rattle.pictures.specs.Numbered.{marks_by_number};
+ghost use Rattle.rules.specs.Named.{named_near};
 ghost use Rattle.cadzvigu.specs.Doors.{refused_by, field_questions, nearest_questions, nearest_door};
 ghost use Rattle.cadzvigu.specs.Statuses.{Ends};
 ghost use Rattle.cadzvigu.specs.Nearests.{HoldsNearest, NearestOfBytes, NearestBy};
@@ -11,8 +12,8 @@ use crate::fault::Fault;
 use crate::writing::write_field;
 use grid::{Refusal, Sizes};
 use pictures::{Grey, Picture, has_mark};
-use replay::{Unwatched, find_new_field};
-use rules::{Block, Chess, Rule, RuleName, Spacings, Square};
+use replay::{Unwatched, find_named_field};
+use rules::{RuleName, Spacings};
 use std::alloc::Global;
 
 /// Whether there is one value and one point for each cell of a picture, and a cell is marked.
@@ -29,37 +30,39 @@ fn check_outputs<P: Picture>(picture: &P, values: &[u64], points: &[u32]) -> Res
     Ok(())
 }
 
-/// Finds the field of a picture under a rule. Refused where there is not one value and one point for each cell (14), then
-/// where no cell is marked (6).
-fn nearest_in<R: Rule + Drop, P: Picture>(
+/// Finds the field of a picture under the rule of a name. Refused where there is not one value and one point for each cell
+/// (14), then where no cell is marked (6).
+fn nearest_in<P: Picture>(
     heap: Global,
-    rule: R,
+    name: RuleName,
+    spacings: Spacings,
     picture: &P,
     values: &mut [u64],
     points: &mut [u32],
 ) -> Result<(), Fault>
-    ensures { Ends result (refused_by (field_questions (P.extent picture.now) (marks_by_number (P.extent picture.now) (P.marks picture.now)) (length values.old) (length points.old))) ((values.new ≡ values.old) × (points.new ≡ points.old)) (HoldsNearest (R.near rule) (P.extent picture.now) (marks_by_number (P.extent picture.now) (P.marks picture.now)) values.new points.new) }
+    ensures { Ends result (refused_by (field_questions (P.extent picture.now) (marks_by_number (P.extent picture.now) (P.marks picture.now)) (length values.old) (length points.old))) ((values.new ≡ values.old) × (points.new ≡ points.old)) (HoldsNearest (named_near name spacings) (P.extent picture.now) (marks_by_number (P.extent picture.now) (P.marks picture.now)) values.new points.new) }
 {
     // asked before the cells are taken: want of memory is told only where every question is answered
     check_outputs(picture, values, points)?;
-    let cells = find_new_field(heap, rule, picture, &mut Unwatched)?;
+    let cells = find_named_field(heap, name, spacings, picture, &mut Unwatched)?;
     write_field(&cells, values, points);
     Ok(())
 }
 
-/// Finds the field of the cells whose byte is not 0, under a rule.
-fn nearest_of_bytes<R: Rule + Drop>(
+/// Finds the field of the cells whose byte is not 0, under the rule of a name.
+fn nearest_of_bytes(
     heap: Global,
-    rule: R,
+    name: RuleName,
+    spacings: Spacings,
     sizes: Sizes,
     bytes: &[u8],
     values: &mut [u64],
     points: &mut [u32],
 ) -> Result<(), Fault>
-    ensures { Ends result (refused_by (nearest_questions sizes bytes.now (length values.old) (length points.old))) ((values.new ≡ values.old) × (points.new ≡ points.old)) (NearestOfBytes (R.near rule) sizes bytes.now values.new points.new) }
+    ensures { Ends result (refused_by (nearest_questions sizes bytes.now (length values.old) (length points.old))) ((values.new ≡ values.old) × (points.new ≡ points.old)) (NearestOfBytes (named_near name spacings) sizes bytes.now values.new points.new) }
 {
     let picture = Grey::new(sizes, 1, bytes)?;
-    nearest_in(heap, rule, &picture, values, points)
+    nearest_in(heap, name, spacings, &picture, values, points)
 }
 
 /// The same under the rule with a number and three spacings.
@@ -76,20 +79,6 @@ pub fn nearest(
 {
     let name = RuleName::try_from(rule)?;
     let (sx, sy, sz) = spacings;
-    let spacings = Spacings::new(sx, sy, sz)?;
-    // a call for each rule: with one `NamedRule`, which matches its name at each point, it took 3 to 11 percent longer
-    match name {
-        RuleName::Square => {
-            let square = Square::from(spacings);
-            nearest_of_bytes(heap, square, sizes, bytes, values, points)
-        }
-        RuleName::Block => {
-            let block = Block::from(spacings);
-            nearest_of_bytes(heap, block, sizes, bytes, values, points)
-        }
-        RuleName::Chess => {
-            let chess = Chess::from(spacings);
-            nearest_of_bytes(heap, chess, sizes, bytes, values, points)
-        }
-    }
+    let over = Spacings::new(sx, sy, sz)?;
+    nearest_of_bytes(heap, name, over, sizes, bytes, values, points)
 }

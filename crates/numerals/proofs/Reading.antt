@@ -2,7 +2,7 @@
 use Rattle.std.proofs.Common.{◌≡◌, ℕ, ◌+◌, ◌-◌, ◌*◌, ◌<◌, ◌≤◌, ◌⊎◌, inl, List, [], ◌∷◌, ◌++◌, length, sym, refl, ap, ◌∙◌, subst, ⊎_elim, arith}
 use Rattle.std.specs.List.{AllByRecursion}
 use Rattle.std.proofs.lemmas.List.{append_assoc, append-nil}
-use Rattle.numerals.specs.Numerals.{numeral, NoDigitNext, BeginsWith, NoNumber, Reads, Unread}
+use Rattle.numerals.specs.Numerals.{numeral, NoDigitNext, BeginsWith, NoNumber, Unread}
 use Rattle.numerals.proofs.Digits.{IsDigit, numeral_none, numeral_more, numeral_digits, same_numeral, longer_no_smaller, no_zero_in_front}
 
 -- two ways to cut a text after digits, one where the digits end: that one goes on where the other stops
@@ -99,13 +99,6 @@ module _ (text rest : List ℕ) (v most : ℕ) (so_far : text ≡ numeral v ++ r
             ∙ ap (λ xs. xs ++ fs) (sym (numeral_more v (b - 48) (omega (arith, digit)) (omega (arith, big)))) in
             omega (arith, longer_no_smaller (v * 10 + (b - 48)) w fs more, r.range, big))
             out
-
--- a number and an ending that is no digit: the digits end there
-begins : (text : List ℕ) (end most w : ℕ) (t : List ℕ) → end < 48 → Reads text end most w t → BeginsWith text most w (end ∷ t)
-begins text end most w t small r = record { range = r.range; whole = r.whole; stops = inl small }
-
-pub unread_without : (text : List ℕ) (end most : ℕ) → end < 48 → NoNumber text most → Unread text end most
-unread_without text end most small none w t r = none w (end ∷ t) (begins text end most w t small r)
 
 -- the digits at the front are a number's, and its ending does not come next
 pub unread_unended : (text : List ℕ) (end most v : ℕ) (u : List ℕ) → end < 48 → BeginsWith text most v u → ((t : List ℕ) → u ≡ end ∷ t → ⊥) → Unread text end most
