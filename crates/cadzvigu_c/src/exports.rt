@@ -1,4 +1,4 @@
-// What C calls.
+// What C calls. Values and points are two arrays, as C passes them.
 ghost use Rattle.std.specs.Prelude.{◌≡◌, length};
 ghost use Rattle.cadzvigu.specs.Doors.{sizes_of, nearest_door, signed_call_door};
 ghost use Rattle.cadzvigu.specs.Nearests.{NearestBy};

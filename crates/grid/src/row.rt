@@ -16,6 +16,8 @@ pub struct Row {
 }
 
 impl Sizes {
+    // Here and in the calls of a rule the axis is any number: what is answered for each may not be asked of callers as a type.
+
     /// How many rows an axis, 1 to 3, has; none on any other axis, and none where these are no grid's sizes.
     pub fn row_count(self, axis: u8) -> Option<u32>
         ensures { SomeIff result (IsGrid self × OnAxis axis) (row_count self axis) }

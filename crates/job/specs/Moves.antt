@@ -15,6 +15,11 @@ abbrev pub Moves : {X S : Type 0} → Result X (Kept S) → Option Refusal → S
 Moves (Ok x) door old P = (door ≡ None) × P x
 Moves (Err kept) door old P = (door ≡ Some kept.refusal) × (kept.state ≡ old)
 
+-- the old state, where the answer is accepted, or it is handed back with the refusal of the answer
+abbrev pub Keeps : {S : Type 0} → Result S (Kept S) → S → Result (Unit {0}) Refusal → Type 0
+Keeps (Ok x) old answer = (x ≡ old) × (answer ≡ Ok tt)
+Keeps (Err kept) old answer = (kept.state ≡ old) × (answer ≡ Err kept.refusal)
+
 -- the cells after such a call: `new` where it is accepted, else what they were
 abbrev pub Leaves : {X Y : Type 0} → Result X Y → List Cell → List Cell → List Cell → Type 0
 Leaves (Ok x) before after new = after ≡ new

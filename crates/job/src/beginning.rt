@@ -27,6 +27,7 @@ pub fn begin<R: Rule>(rule: R, sizes: Sizes, cells: &mut [Cell]) -> Result<Paint
     ensures moves { Moves result (begin_door sizes cells.old) rule (IsPainting rule sizes) }
     ensures leaves { Leaves result cells.old cells.new (painted_cells (λ k. false) (cell_count sizes)) }
 {
+    // A match, as the rule goes into both arms.
     match grid_for(sizes, cells) {
         Ok(grid) => {
             clear(cells);

@@ -5,7 +5,7 @@ ghost use Rattle.job.specs.Doors.{lent};
 ghost use Rattle.job.specs.Moves.{Moves, Leaves, IsPainting};
 
 use crate::passes::repaint;
-use crate::questions::{check_lent, check_place};
+use crate::questions::{check_lent, check_place, keep};
 use crate::states::{Finished, Kept, Painting};
 use grid::{Cell, Refusal};
 use rules::Rule;
@@ -26,23 +26,14 @@ impl<R: Rule> Finished<R> {
     }
 
     /// Leads back to painting: every cell gets its painted record.
-    // `Working` has the same: a trait over the two states would be longer than the match.
+    // `Working` has the same: a trait over the two states would be longer than the method.
     pub fn reopen(self, cells: &mut [Cell]) -> Result<Painting<R>, Kept<Finished<R>>>
         ensures moves { Moves result (lent self.grid.sizes cells.old None) self (IsPainting self.rule self.grid.sizes) }
         ensures leaves { Leaves result cells.old cells.new (painted_cells (marks_in cells.old) (length cells.old)) }
     {
-        match check_lent(self.grid, cells) {
-            Ok(()) => {
-                repaint(cells);
-                Ok(Painting {
-                    rule: self.rule,
-                    grid: self.grid,
-                })
-            }
-            Err(refusal) => Err(Kept {
-                state: self,
-                refusal,
-            }),
-        }
+        let answer = check_lent(self.grid, cells);
+        let Finished { rule, grid } = keep(self, answer)?;
+        repaint(cells);
+        Ok(Painting { rule, grid })
     }
 }

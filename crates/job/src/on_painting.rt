@@ -5,7 +5,7 @@ ghost use Rattle.job.specs.Doors.{lent, start_door};
 ghost use Rattle.job.specs.Moves.{Moves, IsWorking};
 
 use crate::passes::copy_picture;
-use crate::questions::{check_lent, check_place, check_start};
+use crate::questions::{check_lent, check_place, check_start, keep};
 use crate::states::{Kept, Painting, Working};
 use grid::{Axis, Cell, Refusal};
 use pictures::Picture;
@@ -50,16 +50,9 @@ impl<R: Rule> Painting<R> {
     pub fn start(self, cells: &[Cell]) -> Result<Working<R>, Kept<Painting<R>>>
         ensures { Moves result (lent self.grid.sizes cells.now (start_door self.grid.sizes (marks_in cells.now))) self (IsWorking self.rule self.grid.sizes 1) }
     {
-        match check_start(self.grid, cells) {
-            Ok(()) => Ok(Working {
-                rule: self.rule,
-                grid: self.grid,
-                axis: Axis { number: 1 },
-            }),
-            Err(refusal) => Err(Kept {
-                state: self,
-                refusal,
-            }),
-        }
+        let answer = check_start(self.grid, cells);
+        let Painting { rule, grid } = keep(self, answer)?;
+        let axis = Axis { number: 1 };
+        Ok(Working { rule, grid, axis })
     }
 }

@@ -6,7 +6,7 @@ ghost use Rattle.job.specs.Doors.{lent, raise_door};
 ghost use Rattle.job.specs.Moves.{Moves, Leaves, IsPainting, Rises};
 
 use crate::passes::repaint;
-use crate::questions::{check_lent, check_raise};
+use crate::questions::{check_lent, check_raise, keep};
 use crate::states::{Finished, Kept, Painting, Raised, Working};
 use grid::{Cell, Refusal};
 use rows::{Room, work_row};
@@ -55,13 +55,9 @@ impl<R: Rule> Working<R> {
     pub fn raise(self, cells: &[Cell]) -> Result<Raised<R>, Kept<Working<R>>>
         ensures { Moves result (lent self.grid.sizes cells.now (raise_door self.grid.sizes self.axis.number (levels_in cells.now))) self (Rises self.rule self.grid.sizes self.axis.number) }
     {
-        match check_raise(self.grid, self.axis, cells) {
-            Ok(()) => Ok(self.raised()),
-            Err(refusal) => Err(Kept {
-                state: self,
-                refusal,
-            }),
-        }
+        let answer = check_raise(self.grid, self.axis, cells);
+        let job = keep(self, answer)?;
+        Ok(job.raised())
     }
 
     /// The job on the next axis, or at its end.
@@ -80,18 +76,12 @@ impl<R: Rule> Working<R> {
         ensures moves { Moves result (lent self.grid.sizes cells.old None) self (IsPainting self.rule self.grid.sizes) }
         ensures leaves { Leaves result cells.old cells.new (painted_cells (marks_in cells.old) (length cells.old)) }
     {
-        match check_lent(self.grid, cells) {
-            Ok(()) => {
-                repaint(cells);
-                Ok(Painting {
-                    rule: self.rule,
-                    grid: self.grid,
-                })
-            }
-            Err(refusal) => Err(Kept {
-                state: self,
-                refusal,
-            }),
-        }
+        let answer = check_lent(self.grid, cells);
+        let job = keep(self, answer)?;
+        repaint(cells);
+        Ok(Painting {
+            rule: job.rule,
+            grid: job.grid,
+        })
     }
 }

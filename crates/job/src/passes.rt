@@ -44,6 +44,7 @@ pub(crate) fn copy_picture<P: Picture>(grid: Grid, cells: &mut [Cell], picture: 
 }
 
 /// Whether a cell is marked.
+// Here and below a loop over the cells, as the two questions of a job are asked cell by cell.
 pub(crate) fn any_marked(cells: &[Cell]) -> bool
     ensures { result ≡ some_place (length cells.now) (marks_in cells.now) }
 {

@@ -3,10 +3,22 @@ ghost use Rattle.std.specs.Prelude.{◌≡◌, ◌<◌, length, None};
 ghost use Rattle.grid.specs.Doors.{Admits};
 ghost use Rattle.grid.specs.Geometry.{cell_count, cell_number};
 ghost use Rattle.job.specs.Cells.{marks_in, levels_in};
+ghost use Rattle.job.specs.Moves.{Keeps};
 ghost use Rattle.job.specs.Doors.{lent, place_door, start_door, raise_door};
 
 use crate::passes::{all_at, any_marked};
+use crate::states::Kept;
 use grid::{Axis, Cell, Grid, Refusal};
+
+/// The state, unless a question was answered no: then it comes back with the refusal.
+pub(crate) fn keep<S>(state: S, answer: Result<(), Refusal>) -> Result<S, Kept<S>>
+    ensures { Keeps result state answer }
+{
+    match answer {
+        Ok(()) => Ok(state),
+        Err(refusal) => Err(Kept { state, refusal }),
+    }
+}
 
 /// Are exactly as many cells lent as the grid has? This is the first question of every call.
 pub(crate) fn check_lent(grid: Grid, cells: &[Cell]) -> Result<(), Refusal>

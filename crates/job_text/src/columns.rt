@@ -15,7 +15,7 @@ pub enum Column {
     Sz,
 }
 
-/// The columns of a job text from left to right.
+/// The columns of a job text from left to right: four fields and no array, as each has a place of its own in the definitions.
 #[derive(Clone, Copy)]
 pub struct Order {
     pub first: Column,

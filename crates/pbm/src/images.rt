@@ -40,6 +40,7 @@ pub struct Header<'a> {
 }
 
 /// What comes after `P4` and a line feed.
+// A slice pattern shows the three bytes where `numerals::after_prefix` would hide them in an argument.
 fn after_magic(text: &[u8]) -> Option<&[u8]>
     ensures { MatchOption result (NotPrefix magic text.now) (λ rest. Follows magic rest.now text.now) }
 {

@@ -79,6 +79,7 @@ impl<'a, P: Picture> HalfGrid<'a, P> {
     }
 }
 
+// The sizes are worked out from the picture below at each call: they are its own, and kept beside it they would be said twice.
 impl<'a, P: Picture> Picture for HalfGrid<'a, P> {
     ghost extent = { λ h. half_extent (P.extent h.below.now) };
 

@@ -3,7 +3,7 @@ ghost use Rattle.replay.specs.declared.calls.Answer.TheVariants.{Done, Refused};
 
 use grid::Refusal;
 
-/// A call on a job, with its arguments.
+/// A call on a job, with its arguments. Calls are data, which a script can hold, and no closures.
 #[derive(Drop)]
 pub enum Call<P> {
     Mark((u32, u32, u32)),

@@ -57,7 +57,8 @@ pub fn find_new_field<R: Rule + Drop, P: Picture, W: Watch>(
 
 /// The same under the rule of a name.
 ///
-/// The choice is made once, among three types: `NamedRule`, which makes it for each cell, takes 5 to 13 percent longer.
+/// The choice is made once, among three types: `NamedRule`, which makes it for each cell, takes 5 to 13 percent longer, too long for
+/// the aim of docs/PERFORMANCE.md.
 pub fn find_named_field<P: Picture, W: Watch>(
     heap: Global,
     name: RuleName,

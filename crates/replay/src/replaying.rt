@@ -9,6 +9,8 @@ use pictures::Picture;
 use rows::Room;
 use rules::Rule;
 
+// Calls and answers are two lists, as the answers go into a slice that the caller lends.
+
 /// Begins a job, makes the calls in their order, and writes down the answer of each.
 ///
 /// After any list of calls, refused ones among them: the answers, the stage, the marks and the levels are those of a book

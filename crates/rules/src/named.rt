@@ -31,6 +31,7 @@ impl NamedRule {
     }
 }
 
+// Three switches and no table of functions: the trait has three calls to answer.
 impl Rule for NamedRule {
     ghost near = { λ r. named_near r.name r.spacings };
 

@@ -48,7 +48,7 @@ fn time_grid<R: Rule + Copy>(
 }
 
 /// The same under the rule that is asked for. It is one of three types, since `NamedRule`, which chooses for each cell, would
-/// take 5 to 13 percent longer.
+/// take 5 to 13 percent longer and miss the aim of docs/PERFORMANCE.md.
 fn time_rule(rt: &HostRuntime, asked: &Asked, board: &mut Board) -> anyhow::Result<()> {
     let (sx, sy, sz) = asked.spacings;
     let spacings = Spacings::new(sx, sy, sz).map_err(|_| anyhow!(
