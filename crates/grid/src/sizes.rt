@@ -42,19 +42,17 @@ impl Sizes {
         self.fit() && self.nx * self.ny * self.nz <= MAX_CELLS
     }
 
-    /// The grid of these sizes where they are those of a grid, else that of a single cell.
-    pub fn as_grid(self) -> Grid
-        ensures { result.sizes ≡ as_grid self }
+    /// These sizes where they are those of a grid, else those of a single cell.
+    pub fn as_grid(self) -> Sizes
+        ensures { result ≡ as_grid self }
     {
         if self.is_grid() {
-            Grid { sizes: self }
+            self
         } else {
-            Grid {
-                sizes: Sizes {
-                    nx: 1,
-                    ny: 1,
-                    nz: 1,
-                },
+            Sizes {
+                nx: 1,
+                ny: 1,
+                nz: 1,
             }
         }
     }

@@ -4,7 +4,7 @@ ghost use Rattle.pbm.specs.Form.{raster_bytes};
 use crate::faults::StackFault;
 use crate::images::row_bytes;
 use crate::reading::{bit_is_set, read_stack};
-use grid::Grid;
+use grid::{Grid, Sizes};
 use pictures::Picture;
 
 /// A picture over lent bytes that are a stack of images: layer z is image z, and a set bit is a marked cell.
@@ -58,8 +58,8 @@ impl<'a> Picture for Stack<'a> {
 
     ghost lawful = { stack_lawful };
 
-    fn grid(&self) -> Grid {
-        self.grid
+    fn sizes(&self) -> Sizes {
+        self.grid.sizes
     }
 
     fn marked(&self, place: (u32, u32, u32)) -> bool {

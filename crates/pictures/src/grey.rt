@@ -47,8 +47,8 @@ impl<'a> Picture for Grey<'a> {
 
     ghost lawful = { grey_lawful };
 
-    fn grid(&self) -> Grid {
-        self.grid
+    fn sizes(&self) -> Sizes {
+        self.grid.sizes
     }
 
     fn marked(&self, place: (u32, u32, u32)) -> bool {

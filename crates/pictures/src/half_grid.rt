@@ -5,7 +5,7 @@ ghost use Rattle.pictures.specs.Faces.{AnswersHalfGrid, half_sizes, half_extent,
 ghost use Rattle.pictures.specs.Laws.{lawful_as_grid};
 
 use crate::picture::Picture;
-use grid::{Grid, MAX_CELLS, Refusal, Sizes};
+use grid::{MAX_CELLS, Refusal, Sizes};
 
 /// The largest size of a picture that has a half-grid.
 const MAX_SIZE_BELOW: u32 = 512;
@@ -87,11 +87,11 @@ impl<'a, P: Picture> Picture for HalfGrid<'a, P> {
 
     ghost lawful = { lawful_as_grid (λ h. half_sizes (P.extent h.below.now)) (λ h. mixed_corners (P.marks h.below.now)) };
 
-    fn grid(&self) -> Grid {
+    fn sizes(&self) -> Sizes {
         half_sizes(self.below).as_grid()
     }
 
     fn marked(&self, place: (u32, u32, u32)) -> bool {
-        self.grid().sizes.contains(place) && has_mixed_corners(self.below, place)
+        self.sizes().contains(place) && has_mixed_corners(self.below, place)
     }
 }

@@ -3,7 +3,7 @@ ghost use Rattle.pictures.specs.Laws.{lawful_within};
 ghost use Rattle.pictures.specs.Negatives.{MarksTheRest, negative_marks};
 
 use crate::picture::Picture;
-use grid::Grid;
+use grid::Sizes;
 
 /// The negative of a picture: it has the same grid, and marks the cells of it that the picture does not.
 #[derive(Drop)]
@@ -28,11 +28,11 @@ impl<'a, P: Picture> Picture for Negative<'a, P> {
 
     ghost lawful = { lawful_within (λ n. P.extent n.of.now) (λ n at. not (P.marks n.of.now at)) (λ n. P.Picture.lawful.grid n.of.now) };
 
-    fn grid(&self) -> Grid {
-        self.of.grid()
+    fn sizes(&self) -> Sizes {
+        self.of.sizes()
     }
 
     fn marked(&self, place: (u32, u32, u32)) -> bool {
-        self.grid().sizes.contains(place) && !self.of.marked(place)
+        self.of.sizes().contains(place) && !self.of.marked(place)
     }
 }

@@ -19,18 +19,19 @@ pub trait Picture {
     // every picture has the sizes of a grid, and marks no place outside it
     ghost lawful: { Lawful extent marks };
 
-    /// The picture's grid.
-    fn grid(&self) -> Grid
-        ensures { result.sizes ≡ extent self.now };
-
     /// The sizes of the picture's grid.
     fn sizes(&self) -> Sizes
-        ensures { result ≡ extent self.now }
-    {
-        self.grid().sizes
-    }
+        ensures { result ≡ extent self.now };
 
     /// Whether the cell at a place is marked; outside the grid it is not.
     fn marked(&self, place: (u32, u32, u32)) -> bool
         ensures { result ≡ marks self.now place };
+
+    /// The picture's grid, which has these sizes.
+    fn grid(&self) -> Grid
+        ensures { result.sizes ≡ extent self.now }
+    {
+        let sizes = self.sizes();
+        Grid { sizes }
+    }
 }

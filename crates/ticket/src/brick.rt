@@ -1,7 +1,7 @@
 ghost use Rattle.std.specs.Prelude.{◌≡◌};
 ghost use Rattle.ticket.specs.Bricks.{reaches, brick_extent, brick_marks, brick_lawful};
 
-use grid::{Grid, Sizes};
+use grid::Sizes;
 use pictures::Picture;
 
 /// A picture that marks the cells of a grid between two corners, both among them.
@@ -26,11 +26,11 @@ impl Picture for Brick {
 
     ghost lawful = { brick_lawful };
 
-    fn grid(&self) -> Grid {
+    fn sizes(&self) -> Sizes {
         self.sizes.as_grid()
     }
 
     fn marked(&self, place: (u32, u32, u32)) -> bool {
-        self.grid().sizes.contains(place) && reaches(place, self.low) && reaches(self.high, place)
+        self.sizes().contains(place) && reaches(place, self.low) && reaches(self.high, place)
     }
 }
