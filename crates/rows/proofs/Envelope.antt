@@ -125,8 +125,20 @@ module _ (ceiling : ℕ → ℕ) (near : Near) (law : Crossing ceiling near) (d 
       (λ ge. inl (le_trans (after c x e t wc wx f (omega arith) k) n)) (cases_lt t c.start)
   pop_covers x c st e t v l wc wx f h k (inr (inr n)) = inr n
 
-  -- the last candidate that has begun is nearest of all
-  pub last_best : (up : List Candidate) (c : Candidate) (down : List Candidate) (t v : ℕ) → LinedUp (near d) (up ++ c ∷ down) → AllByRecursion (Within (ceiling (d - 1)) 1023) (up ++ c ∷ down) → c.start ≤ t → AllByRecursion (λ b. t < b.start) up → t < 1023 → Covers (near d) (up ++ c ∷ down) t v → cost_of (near d) c t ≤ v
-  last_best [] c down t v l w b a r k = top_best c down t v l w b r k
-  last_best (x ∷ up) c down t v l w b a r k =
-      last_best up c down t v (lined_below (near d) x (up ++ c ∷ down) l) w.1 b a.1 r (drop_top (near d) x (up ++ c ∷ down) t v l a.0 k)
+  -- a candidate that has begun is nearest of all where none of those above it has
+  begun_best : (up : List Candidate) (c : Candidate) (down : List Candidate) (t v : ℕ) → LinedUp (near d) (up ++ c ∷ down) → AllByRecursion (Within (ceiling (d - 1)) 1023) (up ++ c ∷ down) → c.start ≤ t → AllByRecursion (λ b. t < b.start) up → t < 1023 → Covers (near d) (up ++ c ∷ down) t v → cost_of (near d) c t ≤ v
+  begun_best [] c down t v l w b a r k = top_best c down t v l w b r k
+  begun_best (x ∷ up) c down t v l w b a r k =
+      begun_best up c down t v (lined_below (near d) x (up ++ c ∷ down) l) w.1 b a.1 r (drop_top (near d) x (up ++ c ∷ down) t v l a.0 k)
+
+  -- the last candidate that has begun, since the next one begins past t, is nearest of all
+  pub last_best : (s : List Candidate) (c : Candidate) (later : List Candidate) (t v : ℕ) → Serving s c later t (t + 1) → LinedUp (near d) (reverse s) → AllByRecursion (Within (ceiling (d - 1)) 1023) (reverse s) → t < 1023 → Covers (near d) (reverse s) t v → cost_of (near d) c t ≤ v
+  last_best s c later t v serving l w r k =
+      let e : reverse s ≡ reverse later ++ c ∷ reverse serving.above.0 = ap reverse serving.above.1 ∙ around serving.above.0 c later in
+      let wait : AllByRecursion (λ b. t < b.start) (reverse later) =
+      later_wait (near d) t serving.above.0 c later (subst (λ st. LinedUp (near d) (reverse st)) serving.above.1 l) serving.next in
+      begun_best (reverse later) c (reverse serving.above.0) t v
+      (subst (λ st. LinedUp (near d) st) e l)
+      (subst (λ st. AllByRecursion (Within (ceiling (d - 1)) 1023) st) e w)
+      serving.begun wait r
+      (subst (λ st. Covers (near d) st t v) e k)

@@ -17,7 +17,7 @@ use Rattle.rules.specs.Laws.{Crossing}
 use Rattle.rows.specs.declared.candidate.Candidate.{Candidate}
 use Rattle.rows.specs.Passes.{renewed, late_refusal, Served, Blank, Cleared}
 use Rattle.rows.specs.Stacks.{cost_of, Overtakes, LinedUp, Covers, Within, StandsFor, moved_to, Settled, Added, Gathered}
-use Rattle.rows.proofs.Envelope.{Waits, Serving, top_down, around, all_back, all_bottom, lined_below, lowest_start, next_later, later_wait, drop_top, pop_covers, last_best}
+use Rattle.rows.proofs.Envelope.{Waits, Serving, top_down, around, all_back, all_bottom, lined_below, lowest_start, next_later, drop_top, pop_covers, last_best}
 use Rattle.rows.proofs.Rewrites.{served_done}
 
 -- leaving candidates out
@@ -135,12 +135,8 @@ module _ (ceiling : ℕ → ℕ) (near : Near) (law : Crossing ceiling near) (d 
 
   pub served_by : (t : ℕ) → Serving s c later t (t + 1) → t < n → Served (near d) d n row t (renewed (row t) d (Some c.point) (cost_of (near d) c t))
   served_by t serving lt =
-      let e : reverse s ≡ reverse later ++ c ∷ reverse serving.above.0 = ap reverse serving.above.1 ∙ around serving.above.0 c later in
-      let lined : LinedUp (near d) (reverse later ++ c ∷ reverse serving.above.0) = subst (λ st. LinedUp (near d) st) e gathered.lined in
-      let within : AllByRecursion (Within (ceiling (d - 1)) 1023) (reverse later ++ c ∷ reverse serving.above.0) =
-      subst (λ st. AllByRecursion (Within (ceiling (d - 1)) 1023) st) e (All-weaker (StandsFor n row n) (Within (ceiling (d - 1)) 1023) widen (reverse s) gathered.points) in
-      let wait : AllByRecursion (λ b. t < b.start) (reverse later) =
-      later_wait (near d) t serving.above.0 c later (subst (λ st. LinedUp (near d) (reverse st)) serving.above.1 gathered.lined) serving.next in
+      let within : AllByRecursion (Within (ceiling (d - 1)) 1023) (reverse s) =
+      All-weaker (StandsFor n row n) (Within (ceiling (d - 1)) 1023) widen (reverse s) gathered.points in
       record {
         mark = refl;
         level = refl;
@@ -149,8 +145,8 @@ module _ (ceiling : ℕ → ℕ) (near : Near) (law : Crossing ceiling near) (d 
           offered = (stands t (t + 1) serving).offer;
           cost = ap (λ v. near d c.place t v) (stands t (t + 1) serving).value;
           as_good = λ j p offer.
-              last_best ceiling near law d on (reverse later) c (reverse serving.above.0) t (offer_cost (near d) row j t) lined within serving.begun wait (omega arith)
-              (subst (λ st. Covers (near d) st t (offer_cost (near d) row j t)) e (gathered.covers j p t offer.in_row offer lt));
+              last_best ceiling near law d on s c later t (offer_cost (near d) row j t) serving gathered.lined within (omega arith)
+              (gathered.covers j p t offer.in_row offer lt);
         };
       }
 

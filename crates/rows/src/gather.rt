@@ -44,7 +44,7 @@ pub(crate) fn gather<R: Rule>(
     stack: &mut Stack,
 ) -> Result<(), Refusal>
     requires row { LiesIn row (length cells.now) }
-    ensures { Admits result (pass_door (R.ceiling rule.now) axis.number row cells.now) (λ _. Gathered (R.near rule.now axis.number) row.count (records cells.now (row_at row)) row.count stack.new.items) }
+    ensures { Admits result (pass_door (R.ceiling rule.now) axis.number row cells.now) (λ _. Gathered (R.near rule.now axis.number) row.count (records cells.now (row_at row)) row.count stack.new) }
 {
     let most = most_on(rule, axis);
     stack.clear();

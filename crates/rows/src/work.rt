@@ -26,6 +26,6 @@ pub fn work_row<R: Rule>(
     ensures { Worked result (R.near rule.now) (R.ceiling rule.now) axis.number row cells.old cells.new }
 {
     gather(rule, axis, cells, row, &mut room.candidates)?;
-    serve(rule, axis, cells, row, &room.candidates);
+    serve(rule, axis, cells, row, room.candidates.as_slice());
     Ok(())
 }

@@ -28,7 +28,7 @@ pub add-requires-clause-below : goal.add-requires-clause-below
 add-requires-clause-below g c =
     let most = g.R.Rule.ceiling c.args.rule.now (c.args.axis.number - 1) in
     let row = records c.args.cells.now (row_at c.args.row) in
-    all_within c.args.row.count row most c.loop-j.j c.loop-j.invariant.1 (reverse c.loop-j.stack.items) c.loop-j.invariant.2.points
+    all_within c.args.row.count row most c.loop-j.j c.loop-j.invariant.1 (reverse c.loop-j.stack) c.loop-j.invariant.2.points
 
 pub loop-j-preserved : goal.loop-j-preserved
 loop-j-preserved g c =
@@ -44,14 +44,14 @@ loop-j-preserved g c =
       one_more (λ i. (row i).value ≤ most) j c.loop-j.invariant.1 low,
       elim c.match-cell.branch [
         | in-Some w ↦
-            subst (λ s. Gathered near n row (j + 1) s) (sym (ap (λ s. s.items) w.stack-is))
-            (gathered_add near n row j c.loop-j.stack.items
+            subst (λ s. Gathered near n row (j + 1) s) (sym w.stack-is)
+            (gathered_add near n row j c.loop-j.stack
             (record { place = j; start = 0; point = w.in-Some.point; value = c.load-cell.result.value })
-            w.add.new.stack.items c.loop-j-test.true c.loop-j.invariant.2 refl
+            w.add.new.stack c.loop-j-test.true c.loop-j.invariant.2 refl
             (ap (λ cell. cell.value) found) (sym (ap (λ cell. cell.point) found) ∙ w.in-Some.is) w.add.ensures)
         | in_default w ↦
-            subst (λ s. Gathered near n row (j + 1) s) (sym (ap (λ s. s.items) w.stack-is))
-            (gathered_skip near n row j c.loop-j.stack.items c.loop-j.invariant.2 (sym (ap (λ cell. cell.point) found) ∙ w.in_default.is))
+            subst (λ s. Gathered near n row (j + 1) s) (sym w.stack-is)
+            (gathered_skip near n row j c.loop-j.stack c.loop-j.invariant.2 (sym (ap (λ cell. cell.point) found) ∙ w.in_default.is))
       ],
     )
 
@@ -63,5 +63,5 @@ returns g c =
     let row = records c.args.cells.now (row_at c.args.row) in
     let all : c.loop-j.j ≡ n = omega arith in (
       door_open n row (c.args.axis.number - 1) most (subst (λ m. RowAt m row (c.args.axis.number - 1)) all c.loop-j.invariant.0) (subst (λ m. RowBelow m row most) all c.loop-j.invariant.1),
-      subst (λ m. Gathered near n row m c.loop-j.stack.items) all c.loop-j.invariant.2,
+      subst (λ m. Gathered near n row m c.loop-j.stack) all c.loop-j.invariant.2,
     )

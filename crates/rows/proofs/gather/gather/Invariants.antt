@@ -8,4 +8,4 @@ abbrev pub invariant-loop-j : goal.invariant-loop-j
 invariant-loop-j g l =
     RowAt l.j (records l.cells (row_at l.row)) (l.axis.number - 1)
     × RowBelow l.j (records l.cells (row_at l.row)) (g.R.Rule.ceiling l.rule (l.axis.number - 1))
-    × Gathered (g.R.Rule.near l.rule l.axis.number) l.row.count (records l.cells (row_at l.row)) l.j l.stack.items
+    × Gathered (g.R.Rule.near l.rule l.axis.number) l.row.count (records l.cells (row_at l.row)) l.j l.stack

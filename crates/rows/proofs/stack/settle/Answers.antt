@@ -9,7 +9,7 @@ pub returns-then-start-top : goal.returns-then-start-top
 returns-then-start-top g c =
     let near = g.R.Rule.near c.args.rule.now c.args.axis.number in
     let most = g.R.Rule.ceiling c.args.rule.now (c.args.axis.number - 1) in
-    let s = c.loop-top.stack.items in
+    let s = c.loop-top.stack in
     let top = c.in-Some.field-0.now in
     let found : slice_get s (length s - 1) ≡ Some top = search rules in
     let split = top_split s top found in
@@ -27,11 +27,11 @@ loop-top-preserved g c =
     let ceiling = g.R.Rule.ceiling c.args.rule.now in
     let law = g.met.R.Rule.crosses c.args.rule.now in
     let d = c.args.axis.number in
-    let s = c.loop-top.stack.items in
-    let s' = c.pop.new.self.items in
+    let s = c.loop-top.stack in
+    let s' = c.pop.new.self in
     let top = c.in-Some.field-0.now in
     let found : slice_get s (length s - 1) ≡ Some top = search rules in
-    let split : s ≡ s' ++ top ∷ [] = top_split s top found ∙ ap (λ st. st ++ top ∷ []) (sym c.pop.ensures.rest) in
+    let split : s ≡ s' ++ top ∷ [] = top_split s top found ∙ ap (λ st. st ++ top ∷ []) (sym c.pop.ensures) in
     let down : reverse s ≡ top ∷ reverse s' = ap reverse split ∙ top_down s' top in
     let within = subst (λ st. AllByRecursion (Within (ceiling (d - 1)) c.args.new.place) st) down c.loop-top.invariant.2 in (
       (top ∷ c.loop-top.invariant.0.0, c.loop-top.invariant.0.1 ∙ ap (λ st. st ++ c.loop-top.invariant.0.0) split ∙ append_assoc s' (top ∷ []) c.loop-top.invariant.0.0),
