@@ -1,7 +1,7 @@
 // The field of a whole input.
 ghost use Rattle.std.specs.Prelude.{◌≡◌, MatchResult};
 ghost use Rattle.pbm.specs.Marks.{stack_extent, stack_marks};
-ghost use Rattle.volumes.specs.declared.field.VolumeFault.TheVariants.{Stack, Refused};
+ghost use Rattle.volumes.specs.declared.field.VolumeFault.TheVariants.{Stack, Refused, NoMemory};
 ghost use Rattle.volumes.specs.Volumes.{field_fault, SetField, NoSetField, FindsVolume, FaultyVolume};
 
 use grid::{Cell, Refusal, Sizes};
@@ -10,7 +10,7 @@ use pbm::{Stack, StackFault};
 use pictures::Picture;
 use replay::{FieldError, Watch, find_named_field};
 use rules::Spacings;
-use std::alloc::Global;
+use std::alloc::{AllocError, Global};
 
 /// The field of a stack: its sizes, and for each cell by its number the nearest marked cell and its distance.
 #[derive(Drop)]
@@ -28,6 +28,14 @@ pub enum VolumeFault {
     Refused(Refusal),
     /// There is not enough memory for the cells of a sound stack.
     NoMemory,
+}
+
+impl From<AllocError> for VolumeFault {
+    ghost from_gives = { λ _ r. r ≡ NoMemory };
+
+    fn from(_e: AllocError) -> VolumeFault {
+        VolumeFault::NoMemory
+    }
 }
 
 impl From<StackFault> for VolumeFault {
