@@ -25,6 +25,7 @@ use Rattle.reporting.specs.declared.faults.ReportError.{ReportError}
 use Rattle.reporting.specs.declared.faults.ReportError.TheVariants.{Fault, NoMemory}
 use Rattle.rules.specs.declared.named.NamedRule.{NamedRule}
 use Rattle.rules.specs.Named.{named_near}
+use Rattle.rules.specs.declared.name.RuleName.{RuleName}
 use Rattle.job_text.specs.declared.settings.Settings.{Settings}
 use Rattle.job_text.specs.Jobs.{IsJob}
 use Rattle.reporting.specs.Texts.{NoPoint, LacksPoint, PrintsField}
@@ -61,18 +62,18 @@ pub settings_fit : (input : List ℕ) (s : Settings) (stack : List ℕ) → IsJo
 settings_fit input s stack job = let fits = job.values.each_fits in record { on_x = fits Sx; on_y = fits Sy; on_z = fits Sz }
 
 -- the report by the rule that was made for the settings, of the cells that were printed
-pub reports_stack : (settings : Settings) (made : Result NamedRule Refusal) (rule : NamedRule) (door : Option Refusal)
-    → Admits made door (λ r. (r.name ≡ settings.rule) × HasSpacings r.spacings settings.sx settings.sy settings.sz) → made ≡ Ok rule
+pub reports_stack : (settings : Settings) (name : RuleName) (made : Result NamedRule Refusal) (rule : NamedRule) (door : Option Refusal)
+    → Admits made door (λ r. (r.name ≡ name) × HasSpacings r.spacings settings.sx settings.sy settings.sz) → name ≡ settings.rule → made ≡ Ok rule
     → (s : Sizes) (marks : Place → Bool) (cells : List Cell) → FinishedField (named_near rule.name rule.spacings) s (marks_by_number s marks) cells
     → (t : Sizes) → t ≡ s → (printed : List Cell) → printed ≡ cells → (text : List ℕ) → PrintsField settings.rule t printed text → ReportsStack settings s marks text
-reports_stack settings made rule door admits is s marks cells field t same printed all text prints =
-    let right = (subst (λ m. Admits m door (λ r. (r.name ≡ settings.rule) × HasSpacings r.spacings settings.sx settings.sy settings.sz)) is admits).1 in
+reports_stack settings name made rule door admits named is s marks cells field t same printed all text prints =
+    let right = (subst (λ m. Admits m door (λ r. (r.name ≡ name) × HasSpacings r.spacings settings.sx settings.sy settings.sz)) is admits).1 in
     record {
       spacings = rule.spacings;
       as_set = right.1;
       field = record {
         cells = cells;
-        finished = subst (λ n. FinishedField (named_near n rule.spacings) s (marks_by_number s marks) cells) right.0 field;
+        finished = subst (λ n. FinishedField (named_near n rule.spacings) s (marks_by_number s marks) cells) (right.0 ∙ named) field;
         printed = subst (λ l. PrintsField settings.rule s l text) all (subst (λ n. PrintsField settings.rule n printed text) same prints);
       };
     }

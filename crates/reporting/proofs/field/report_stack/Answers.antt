@@ -12,7 +12,7 @@ returns c =
     let found = c.in_ok-cells.ensures in
     let cells = c.in_ok-cells.cells.items in
     MatchResult-weaker c.field_text.result c.field_text.ensures
-    (λ t. reports_stack c.args.settings c.new.result c.unwrap-named.result _ c.new.ensures c.unwrap-named.ensures _ _ cells found.finished _ c.grid.ensures _ c.deref.ensures.value (string_bytes t))
+    (λ t. reports_stack c.args.settings _ c.new.result c.unwrap-named.result _ c.new.ensures (search rules) c.unwrap-named.ensures _ _ cells found.finished _ c.grid.ensures _ c.deref.ensures.value (string_bytes t))
     (λ e lacks. no_field_from_no_point _ _ _ cells found.finished c.deref.result.now c.deref.ensures.value e lacks)
 
 pub returns-in_err-cells : goal.returns-in_err-cells
