@@ -8,7 +8,7 @@ use grid::{Grid, Sizes};
 /// A picture: the sizes of a grid, and for any place whether the cell there is marked.
 ///
 /// Every value of a picture's type has the sizes of a grid and marks nothing outside it, so nothing is asked of a
-/// caller, and neither call changes the picture.
+/// caller, and no call changes the picture.
 pub trait Picture {
     // the sizes of the picture's grid
     ghost extent: { Self → GridSizes };
