@@ -29,9 +29,10 @@ byte_of_eight v (suc (suc (suc (suc (suc (suc zero)))))) h = refl
 byte_of_eight v (suc (suc (suc (suc (suc (suc (suc zero))))))) h = refl
 byte_of_eight v (suc (suc (suc (suc (suc (suc (suc (suc j)))))))) h = absurd (omega arith)
 
--- the cells of a chunk, counted from its first
-pub chosen : (cells : List Cell) (from n k : ℕ) → k < n → get_or (take (from + n - from) (drop from cells)) k no_cell ≡ cell_at cells (from + k)
-chosen cells from n k h = get_or-take (from + n - from) (drop from cells) k no_cell (omega arith) ∙ get_or-drop from cells k no_cell
+-- the cells of a chunk, counted from its first: it goes from `start`, which is `from`, to `past`, n cells on
+pub chosen : (cells : List Cell) (from n k start past : ℕ) → start ≡ from → past ≡ from + n → k < n → get_or (take (past - start) (drop start cells)) k no_cell ≡ cell_at cells (from + k)
+chosen cells from n k start past begins ends h =
+    get_or-take (past - start) (drop start cells) k no_cell (omega arith) ∙ get_or-drop start cells k no_cell ∙ ap (λ (m : ℕ). cell_at cells (m + k)) begins
 
 -- the chunk that is filled, with `width` bytes of a number of each cell from the cell `from` on
 module _ (gives : ℕ → ℕ → Type 0) (width from : ℕ) (some : 0 < width) (few : width ≤ 8) where
@@ -78,12 +79,14 @@ module _ (gives : ℕ → ℕ → Type 0) (width from : ℕ) (some : 0 < width) 
         subst (λ n. IsByteOf gives width from n (get_or after n 0)) back (of_cell (i - width * k) (omega arith)))
         (cases_lt i (width * k))
 
--- other facts of each byte
-pub puts_weaker : {X : Type 0} (r : Result X ChunkFault) (width n from : ℕ) (P Q : ℕ → ℕ → Type 0) (before after : List ℕ)
-    → (length before % width ≡ 0 → from + length before / width ≤ n → (i b : ℕ) → i < length before → P i b → Q i b) → PutsBy r width n from P before after → PutsBy r width n from Q before after
-puts_weaker (Ok x) width n from P Q before after f h = (h.0, h.1, h.2, λ i l. f h.0 h.1 i (get_or after i 0) l (h.3 i l))
-puts_weaker (Err Uneven) width n from P Q before after f h = h
-puts_weaker (Err PastEnd) width n from P Q before after f h = h
+-- other facts of each byte of a chunk from the cell `start`, which is `from`
+pub puts_weaker : {X : Type 0} (r : Result X ChunkFault) (width n start from : ℕ) (P Q : ℕ → ℕ → Type 0) (before after : List ℕ) → start ≡ from
+    → (length before % width ≡ 0 → from + length before / width ≤ n → (i b : ℕ) → i < length before → P i b → Q i b) → PutsBy r width n start P before after → PutsBy r width n from Q before after
+puts_weaker (Ok x) width n start from P Q before after same f h =
+    let few : from + length before / width ≤ n = omega (arith, h.1) in
+    (h.0, few, h.2, λ i l. f h.0 few i (get_or after i 0) l (h.3 i l))
+puts_weaker (Err Uneven) width n start from P Q before after same f h = h
+puts_weaker (Err PastEnd) width n start from P Q before after same f h = (h.0, omega (arith, h.1), h.2)
 
 -- a byte of the values, and a byte of the points, in the file
 pub value_in_file : (cells : List Cell) (from i b : ℕ) → from + i / 8 < length cells → b ≡ low_byte (cell_at cells (from + i / 8)).value (i % 8)

@@ -1,4 +1,4 @@
-use Rattle.std.proofs.Common.{◌≡◌, ℕ, ◌+◌, ◌/◌, ◌%◌, length, ap, ◌∙◌, rules}
+use Rattle.std.proofs.Common.{◌≡◌, ℕ, ◌+◌, ◌/◌, ◌%◌, length, ap, ◌∙◌, rules, arith}
 use Rattle.grid.specs.Cells.{cell_at}
 use Rattle.volumes.specs.Files.{low_byte, point_number}
 use Rattle.volumes.proofs.Filing.{puts_weaker, point_in_file}
@@ -6,7 +6,7 @@ use Rattle.volumes.proofs.bytes.put_points.Goals as goal
 
 pub returns : goal.returns
 returns c =
-    puts_weaker c.put_each.result 4 (length c.args.cells.now) c.args.from _ _ c.args.bytes.now c.put_each.new.bytes
+    puts_weaker c.put_each.result 4 (length c.args.cells.now) _ c.args.from _ _ c.args.bytes.now c.put_each.new.bytes (omega arith)
     (λ even few i b h given.
     let number : given.0 ≡ point_number (cell_at c.args.cells.now (c.args.from + i / 4)).point = search rules in
     point_in_file c.args.cells.now c.args.from i b (given.2 ∙ ap (λ (v : ℕ). low_byte v (i % 4)) number))
